@@ -84,17 +84,6 @@ pub struct Fault {
 }
 
 impl Fault {
-    // A fault found outside sources that names no place.
-    pub fn plain(refusal: Refusal) -> Fault
-        ensures { λ r. ⌜ r ≡ fault refusal 0 0 ⌝ }
-    {
-        Fault {
-            refusal,
-            place: 0,
-            source: 0,
-        }
-    }
-
     // A fault found outside sources at a place.
     pub fn at(refusal: Refusal, place: u32) -> Fault
         ensures { λ r. ⌜ r ≡ fault refusal place 0 ⌝ }
@@ -104,5 +93,12 @@ impl Fault {
             place,
             source: 0,
         }
+    }
+
+    // A fault found outside sources that names no place.
+    pub fn plain(refusal: Refusal) -> Fault
+        ensures { λ r. ⌜ r ≡ fault refusal 0 0 ⌝ }
+    {
+        Fault::at(refusal, 0)
     }
 }
