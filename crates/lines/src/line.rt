@@ -1,0 +1,50 @@
+// A line of numbers.
+ghost use mathlib.Core.Path.{_≡_};
+ghost use Prim.Native.Nat.{_<_};
+ghost use Rattle.lines.specs.Fields.{lineOf};
+ghost use Rattle.lines.specs.Render.{AcceptsWhatIsPrinted};
+use crate::fields::numbers;
+use crate::pieces::Pieces;
+
+// The most bytes of a line, without its line feed.
+pub const MOST_BYTES: usize = 511;
+
+// Why bytes are not a line of so many numbers.
+#[derive(Clone, Copy, Debug, PartialEq, Eq)]
+pub enum LineError {
+    TooLong,
+    // The first field, from 0, that is wrong or missing.
+    Field(usize),
+    // A field too many.
+    Surplus,
+}
+
+fn read_line<const K: usize>(line: &[u8]) -> Result<[u64; K], LineError>
+    ensures { λ r. ⌜ r ≡ lineOf K (now (line .entry)) ⌝ }
+{
+    if line.len() > MOST_BYTES {
+        return Err(LineError::TooLong);
+    }
+    let mut fields = Pieces::new(line, b' ');
+    match numbers::<K>(&mut fields) {
+        Err(i) => Err(LineError::Field(i)),
+        Ok(_) if fields.next().is_some() => Err(LineError::Surplus),
+        Ok(ns) => Ok(ns),
+    }
+}
+
+// The same, with what it says of the bytes.
+fn accepted_line<const K: usize>(line: &[u8]) -> Result<[u64; K], LineError>
+    ensures value { λ r. ⌜ r ≡ lineOf K (now (line .entry)) ⌝ }
+    ensures accepts { λ r. ⌜ (0 < K → AcceptsWhatIsPrinted K (now (line .entry)) r) ⌝ }
+{
+    read_line::<K>(line)
+}
+
+// The K numbers of a line, which is given without its line feed.
+pub fn number_line<const K: usize>(line: &[u8]) -> Result<[u64; K], LineError>
+    ensures value { λ r. ⌜ r ≡ lineOf K (now (line .entry)) ⌝ }
+    ensures accepts { λ r. ⌜ (0 < K → AcceptsWhatIsPrinted K (now (line .entry)) r) ⌝ }
+{
+    accepted_line::<K>(line)
+}
