@@ -17,9 +17,9 @@ use Rattle.std.specs.declared.result.Result.the-variants.{Ok, Err}
 use Rattle.std.proofs.shelf.Tests.{eqb-true, ne-eqb, eq-eqb, cases-eq, cases-lt, lt-ltb, le-ltb, cond-true, cond-false}
 use Rattle.std.proofs.shelf.Decimals.{digits-decimal}
 use Rattle.std.proofs.shelf.Numerals.{not-in-digits}
-use Rattle.lines.specs.declared.line.LineError.{LineError}
-use Rattle.lines.specs.declared.line.LineError.the-variants.{TooLong}
-use Rattle.lines.specs.Fields.{pieces, onto, numbersOf, first, ended, lineOf}
+use Rattle.lines.specs.declared.fields.LineError.{LineError}
+use Rattle.lines.specs.declared.fields.LineError.the-variants.{TooLong}
+use Rattle.lines.specs.Fields.{pieces, onto, numbersOf, first, atField, fieldsOf, ended, lineOf}
 use Rattle.lines.specs.Numerals.{numberOf, Spells}
 use Rattle.lines.specs.Render.{join, printed, LineOfNumbers, AcceptsWhatIsPrinted}
 use Rattle.lines.proofs.Numbers.{digits, spells-from-number, number-from-spells}
@@ -109,19 +109,22 @@ fields-read (suc k) p (f ∷ fs) ns h = go (λ ms q. fields-read k (suc p) fs ms
         let word = spells-from-number f n e in
         subst (λ l. Fields (suc k) l (f ∷ fs)) (sym same) (record { count = ap suc (tail .count); small = (word .1, tail .small); spelled = λ t. word .0 t ∷ tail .spelled t })
 
-ended-ok : (r : Result (List ℕ × List (List ℕ)) ℕ) (ns : List ℕ) → ended r ≡ Ok ns → r ≡ Ok (ns, [])
-ended-ok (Err q) ns h = let z : _≡_ {A = ℕ} 0 1 = cc in absurd (omega arith)
-ended-ok (Ok (ms, [])) ns h = let same : ms ≡ ns = cc in ap (λ l. Ok (l, [])) same
-ended-ok (Ok (ms, f ∷ fs)) ns h = let z : _≡_ {A = ℕ} 0 1 = cc in absurd (omega arith)
+ended-ok : (k : ℕ) (fs : List (List ℕ)) (ns : List ℕ) → ended (fieldsOf k fs) ≡ Ok ns → numbersOf k 0 fs ≡ Ok (ns, [])
+ended-ok k fs ns h = by (numbersOf k 0 fs) h
+  where
+    by : (r : Result (List ℕ × List (List ℕ)) ℕ) → ended (atField r) ≡ Ok ns → r ≡ Ok (ns, [])
+    by (Err q) h = let z : _≡_ {A = ℕ} 0 1 = cc in absurd (omega arith)
+    by (Ok (ms, [])) h = let same : ms ≡ ns = cc in ap (λ l. Ok (l, [])) same
+    by (Ok (ms, f ∷ gs)) h = let z : _≡_ {A = ℕ} 0 1 = cc in absurd (omega arith)
 
 pub line-read : (k : ℕ) (bs ns : List ℕ) → lineOf k bs ≡ Ok ns → LineOfNumbers k ns bs
 line-read k bs ns h =
     ⊎-elim
     (λ over. let z : _≡_ {A = Result (List ℕ) LineError} (Err TooLong) (Ok ns) = sym (cond-true (ltb 511 (length bs)) _ _ (lt-ltb 511 (length bs) over)) ∙ h in let o : _≡_ {A = ℕ} 0 1 = cc in absurd (omega arith))
     (λ fits.
-        let e = sym (cond-false (ltb 511 (length bs)) _ _ (le-ltb 511 (length bs) fits)) ∙ h in
-        let w = fields-read k 0 (pieces 32 bs) ns (ended-ok (numbersOf k 0 (pieces 32 bs)) ns e) in
-        record { count = w .count; digits = w .small; bytes-are = sym (join-pieces 32 bs) ∙ ap (join 32) (w .spelled); short = fits })
+    let e = sym (cond-false (ltb 511 (length bs)) _ _ (le-ltb 511 (length bs) fits)) ∙ h in
+    let w = fields-read k 0 (pieces 32 bs) ns (ended-ok k (pieces 32 bs) ns e) in
+    record { count = w .count; digits = w .small; bytes-are = sym (join-pieces 32 bs) ∙ ap (join 32) (w .spelled); short = fits })
     (cases-lt 511 (length bs))
 
 split-printed : (ns : List ℕ) → 0 < length ns → All (λ n. n < 10 ^ 13) ns → pieces 32 (printed ns) ≡ map decimal ns
@@ -132,7 +135,7 @@ pub line-printed : (k : ℕ) (bs ns : List ℕ) → 0 < k → LineOfNumbers k ns
 line-printed k bs ns some line =
     let split : pieces 32 bs ≡ map decimal ns = ap (pieces 32) (line .bytes-are) ∙ split-printed ns (omega (arith, line .count)) (line .digits) in
     cond-false (ltb 511 (length bs)) _ _ (le-ltb 511 (length bs) (line .short))
-    ∙ ap ended ((λ t. numbersOf (sym (line .count) t) 0 (split t)) ∙ read-printed 0 ns (line .digits))
+    ∙ ap (λ r. ended (atField r)) ((λ t. numbersOf (sym (line .count) t) 0 (split t)) ∙ read-printed 0 ns (line .digits))
 
 pub accepts : (k : ℕ) (bs : List ℕ) (r : Result (List ℕ) LineError) → 0 < k → r ≡ lineOf k bs → AcceptsWhatIsPrinted k bs r
 accepts k bs r some is ns = (λ h. line-read k bs ns (sym is ∙ h), λ line. is ∙ line-printed k bs ns some line)

@@ -42,7 +42,7 @@ read-more k p i n was ns f left next lt so is reads =
     let turns : k - i ≡ suc (k - (i + 1)) = omega arith in
     let here : suc (p + i) ≡ p + (i + 1) = omega arith in
     let step : numbersOf (k - i) (p + i) left ≡ first (p + i) (Some n) (numbersOf (k - (i + 1)) (p + (i + 1)) next) =
-        (λ t. numbersOf (turns t) (p + i) (is t)) ∙ numbers-more (k - (i + 1)) (p + i) n f next reads ∙ ap (λ q. first (p + i) (Some n) (numbersOf (k - (i + 1)) q next)) here in
+    (λ t. numbersOf (turns t) (p + i) (is t)) ∙ numbers-more (k - (i + 1)) (p + i) n f next reads ∙ ap (λ q. first (p + i) (Some n) (numbersOf (k - (i + 1)) q next)) here in
     so ∙ ap (prefixed ns) step ∙ prefixed-first ns (p + i) n _
 
 pub read-all : (k p i : ℕ) (was : List (List ℕ)) (ns : List ℕ) (left : List (List ℕ)) → k ≤ i → Read k p i was ns left → numbersOf k p was ≡ Ok (ns, left)

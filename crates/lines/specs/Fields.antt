@@ -10,8 +10,8 @@ use Rattle.std.specs.declared.option.Option.{Option}
 use Rattle.std.specs.declared.option.Option.the-variants.{Some, None}
 use Rattle.std.specs.declared.result.Result.{Result}
 use Rattle.std.specs.declared.result.Result.the-variants.{Ok, Err}
-use Rattle.lines.specs.declared.line.LineError.{LineError}
-use Rattle.lines.specs.declared.line.LineError.the-variants.{TooLong, Field, Surplus}
+use Rattle.lines.specs.declared.fields.LineError.{LineError}
+use Rattle.lines.specs.declared.fields.LineError.the-variants.{TooLong, Field, Surplus}
 use Rattle.lines.specs.Numerals.{numberOf}
 
 -- a byte in front of the first piece
@@ -51,17 +51,30 @@ numbersOf zero i fields = Ok ([], fields)
 numbersOf (suc k) i [] = Err i
 numbersOf (suc k) i (f ∷ fields) = first i (numberOf f) (numbersOf k (suc i) fields)
 
--- what a reader of some fields answers, with the fields that it leaves
+-- what a reader of some numbers answers, with the fields that it leaves
 abbrev pub leaving : Result (List ℕ) ℕ → List (List ℕ) → Result (List ℕ × List (List ℕ)) ℕ
 leaving (Ok ns) fields = Ok (ns, fields)
 leaving (Err i) fields = Err i
 
+-- an index as the place of a field
+abbrev pub atField : Result (List ℕ × List (List ℕ)) ℕ → Result (List ℕ × List (List ℕ)) LineError
+atField (Ok r) = Ok r
+atField (Err i) = Err (Field i)
+
+-- the next k fields as numbers, and the fields after them; or the first that is wrong or missing
+abbrev pub fieldsOf : ℕ → List (List ℕ) → Result (List ℕ × List (List ℕ)) LineError
+fieldsOf k fields = atField (numbersOf k 0 fields)
+
+abbrev pub leavingFields : Result (List ℕ) LineError → List (List ℕ) → Result (List ℕ × List (List ℕ)) LineError
+leavingFields (Ok ns) fields = Ok (ns, fields)
+leavingFields (Err e) fields = Err e
+
 -- no field may follow
-abbrev pub ended : Result (List ℕ × List (List ℕ)) ℕ → Result (List ℕ) LineError
-ended (Err i) = Err (Field i)
+abbrev pub ended : Result (List ℕ × List (List ℕ)) LineError → Result (List ℕ) LineError
+ended (Err e) = Err e
 ended (Ok (ns, [])) = Ok ns
 ended (Ok (ns, f ∷ fields)) = Err Surplus
 
 -- a line of k numbers with one space (32) between them, without its line feed
 abbrev pub lineOf : ℕ → List ℕ → Result (List ℕ) LineError
-lineOf k bytes = cond (ltb 511 (length bytes)) (Err TooLong) (ended (numbersOf k 0 (pieces 32 bytes)))
+lineOf k bytes = cond (ltb 511 (length bytes)) (Err TooLong) (ended (fieldsOf k (pieces 32 bytes)))

@@ -7,7 +7,7 @@ use Rattle.std.specs.Written.{decimal}
 use Rattle.std.specs.shelf.Lists.{All}
 use Rattle.std.specs.declared.result.Result.{Result}
 use Rattle.std.specs.declared.result.Result.the-variants.{Ok}
-use Rattle.lines.specs.declared.line.LineError.{LineError}
+use Rattle.lines.specs.declared.fields.LineError.{LineError}
 
 -- pieces with a separator between them
 abbrev pub join : ℕ → List (List ℕ) → List ℕ

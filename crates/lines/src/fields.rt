@@ -1,11 +1,20 @@
 // Fields read one after another.
 ghost use mathlib.Core.Path.{_≡_};
-ghost use Rattle.lines.specs.Fields.{piecesLeft, numbersOf, leaving};
+ghost use Rattle.lines.specs.Fields.{piecesLeft, numbersOf, fieldsOf, leaving, leavingFields};
 use crate::numerals::number;
 use crate::pieces::Pieces;
 
-// The next K fields as numbers, or which of them, from 0, is the first that is wrong or missing.
-pub fn numbers<const K: usize>(fields: &mut Pieces<'_>) -> Result<[u64; K], usize>
+// Why bytes are not a line of so many numbers.
+#[derive(Clone, Copy, Debug, PartialEq, Eq)]
+pub enum LineError {
+    TooLong,
+    // The first field, from 0, that is wrong or missing.
+    Field(usize),
+    // A field too many.
+    Surplus,
+}
+
+fn read_numbers<const K: usize>(fields: &mut Pieces<'_>) -> Result<[u64; K], usize>
     ensures { λ r. ⌜ numbersOf K 0 (piecesLeft (now (fields .entry) .separator) (now (fields .entry) .rest)) ≡ leaving r (piecesLeft (now (fields .exit) .separator) (now (fields .exit) .rest)) ⌝ }
 {
     let mut out = [0; K];
@@ -19,4 +28,14 @@ pub fn numbers<const K: usize>(fields: &mut Pieces<'_>) -> Result<[u64; K], usiz
         out[i] = n;
     }
     Ok(out)
+}
+
+// The next K fields as numbers, or the first of them that is wrong or missing.
+pub fn numbers<const K: usize>(fields: &mut Pieces<'_>) -> Result<[u64; K], LineError>
+    ensures { λ r. ⌜ fieldsOf K (piecesLeft (now (fields .entry) .separator) (now (fields .entry) .rest)) ≡ leavingFields r (piecesLeft (now (fields .exit) .separator) (now (fields .exit) .rest)) ⌝ }
+{
+    match read_numbers::<K>(fields) {
+        Ok(ns) => Ok(ns),
+        Err(i) => Err(LineError::Field(i)),
+    }
 }

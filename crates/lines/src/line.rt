@@ -3,21 +3,12 @@ ghost use mathlib.Core.Path.{_≡_};
 ghost use Prim.Native.Nat.{_<_};
 ghost use Rattle.lines.specs.Fields.{lineOf};
 ghost use Rattle.lines.specs.Render.{AcceptsWhatIsPrinted};
+use crate::fields::LineError;
 use crate::fields::numbers;
 use crate::pieces::Pieces;
 
 // The most bytes of a line, without its line feed.
 pub const MOST_BYTES: usize = 511;
-
-// Why bytes are not a line of so many numbers.
-#[derive(Clone, Copy, Debug, PartialEq, Eq)]
-pub enum LineError {
-    TooLong,
-    // The first field, from 0, that is wrong or missing.
-    Field(usize),
-    // A field too many.
-    Surplus,
-}
 
 fn read_line<const K: usize>(line: &[u8]) -> Result<[u64; K], LineError>
     ensures { λ r. ⌜ r ≡ lineOf K (now (line .entry)) ⌝ }
@@ -26,11 +17,11 @@ fn read_line<const K: usize>(line: &[u8]) -> Result<[u64; K], LineError>
         return Err(LineError::TooLong);
     }
     let mut fields = Pieces::new(line, b' ');
-    match numbers::<K>(&mut fields) {
-        Err(i) => Err(LineError::Field(i)),
-        Ok(_) if fields.next().is_some() => Err(LineError::Surplus),
-        Ok(ns) => Ok(ns),
+    let ns = numbers::<K>(&mut fields)?;
+    if fields.next().is_some() {
+        return Err(LineError::Surplus);
     }
+    Ok(ns)
 }
 
 // The same, with what it says of the bytes.

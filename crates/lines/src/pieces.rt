@@ -1,5 +1,6 @@
 // Bytes cut at a separator.
 ghost use mathlib.Core.Path.{_≡_};
+ghost use mathlib.Core.List.{_∷_};
 ghost use Prim.Native.Nat.{_≤_, _<_, _^_};
 ghost use lib.ListN.{length};
 ghost use Rattle.std.specs.Options.{mapped};
@@ -16,6 +17,18 @@ fn find(bytes: &[u8], separator: u8) -> usize
         i += 1;
     }
     i
+}
+
+// The first piece, and what stands after its separator, if it has one.
+fn cut<'a>(bytes: &'a [u8], separator: u8) -> (&'a [u8], Option<&'a [u8]>)
+    ensures { λ r. ⌜ pieces separator (now (bytes .entry)) ≡ now (r .0) ∷ piecesLeft separator (r .1) ⌝ }
+{
+    let len = bytes.len();
+    let end = find(bytes, separator);
+    if end < len {
+        return (&bytes[0..end], Some(&bytes[end + 1..len]));
+    }
+    (bytes, None)
 }
 
 // The pieces of some bytes between separators, one after another; there is always at least one.
@@ -42,13 +55,8 @@ impl<'a> Pieces<'a> {
         let Some(rest) = self.rest else {
             return None;
         };
-        let len = rest.len();
-        let end = find(rest, self.separator);
-        if end < len {
-            self.rest = Some(&rest[end + 1..len]);
-            return Some(&rest[0..end]);
-        }
-        self.rest = None;
-        Some(rest)
+        let (piece, left) = cut(rest, self.separator);
+        self.rest = left;
+        Some(piece)
     }
 }

@@ -5,7 +5,7 @@ use native.Mathlib.Omega.{arith}
 use lib.ListN.{take}
 use Rattle.std.proofs.shelf.Lists.{length-replicate}
 use Rattle.lines.proofs.Rows.{read-none, more, all, read-missing, read-wrong}
-use Rattle.lines.proofs.fields.numbers.Needs as need
+use Rattle.lines.proofs.fields.read_numbers.Needs as need
 
 pub loop-i-holds : need.loop-i-holds
 loop-i-holds g c = (length-replicate (g .K) 0, read-none (g .K) 0 _)
