@@ -1,0 +1,5 @@
+pub mod Bottoms
+pub mod Layers
+pub mod Limits
+pub mod Readings
+pub mod Within

@@ -1,0 +1,73 @@
+// A layer that estimates what was saved since a base period.
+ghost use mathlib.Core.Path.{_≡_};
+ghost use mathlib.Core.Bool.{false};
+ghost use Prim.Native.Nat.{_*_, _≤_};
+ghost use Rattle.sources.specs.Layers.{estimateOutOfRange, expected, estimateMeaning};
+ghost use Rattle.sources.specs.Limits.{mostPeriodOutput, mostKilograms};
+ghost use Rattle.sources.specs.Within.{estimate-within};
+use crate::reading::MOST_KILOGRAMS;
+use crate::reading::Reading;
+use crate::reading::found;
+use crate::source::Source;
+use faults::Fault;
+use faults::Refusal;
+
+// The largest output of a period, in wan.
+pub const MOST_PERIOD_OUTPUT: u64 = 9_000_000;
+
+// The output of the report period and of the base period, in wan, and what the base period emitted, as a caller
+// sends them: all three numbers may be anything.
+#[derive(Clone, Copy, Debug, PartialEq, Eq)]
+pub struct EstimateFigures {
+    pub report_output: u64,
+    pub base_output: u64,
+    pub base_kilograms: u64,
+}
+
+impl EstimateFigures {
+    // The number of the layer.
+    pub const NUMBER: u32 = 4;
+
+    fn out_of_range(self) -> bool
+        ensures { λ r. ⌜ r ≡ estimateOutOfRange self ⌝ }
+    {
+        self.report_output > MOST_PERIOD_OUTPUT
+            || self.base_output == 0
+            || self.base_output > MOST_PERIOD_OUTPUT
+            || self.base_kilograms > MOST_KILOGRAMS
+    }
+
+    // What the base period would have emitted at the output of the report period, toward zero.
+    fn expected(self) -> u64
+        requires { ⌜ estimateOutOfRange self ≡ false ⌝ }
+        ensures value { λ r. ⌜ r ≡ expected self ⌝ }
+        ensures bound { λ r. ⌜ r ≤ mostPeriodOutput * mostKilograms ⌝ }
+    {
+        self.report_output * self.base_kilograms / self.base_output
+    }
+}
+
+// An estimate of the saving against the reading of the source below: the reading is below 0 where more was emitted
+// than expected.
+#[derive(Drop)]
+pub struct Estimate<S> {
+    pub figures: EstimateFigures,
+    pub below: S,
+}
+
+pub impl<S: Source> Source for Estimate<S> as EstimateSource {
+    const NUMBER: u32 = EstimateFigures::NUMBER;
+
+    ghost meaning = { λ s. estimateMeaning (s .figures) (S·Source .meaning (s .below)) };
+
+    ghost within = { λ s. estimate-within (s .figures) (S·Source .meaning (s .below)) (S·Source .within (s .below)) };
+
+    fn read(&self) -> Result<Reading, Fault> {
+        if self.figures.out_of_range() {
+            return Err(found(Refusal::FigureOutOfRange, EstimateFigures::NUMBER));
+        }
+        let below = self.below.read()?;
+        let saved = self.figures.expected() as i64 - below.kilograms;
+        Reading::worked_out(saved, below.grade, EstimateFigures::NUMBER)
+    }
+}

@@ -1,0 +1,9 @@
+// Emission sources, and the layers over them.
+pub mod economic;
+pub mod estimate;
+pub mod offset;
+pub mod overseas;
+pub mod physical;
+pub mod reading;
+pub mod reported;
+pub mod source;
