@@ -11,6 +11,8 @@ use Rattle.faults.specs.declared.Fault.{Fault}
 use Rattle.faults.specs.declared.Refusal.the-variants.{FigureOutOfRange, OverseasAboveReading, OffsetsAboveReading}
 use Rattle.sources.specs.Limits.{mostKilograms, mostPeriodOutput, mostOffset, estimateNumber, overseasNumber, offsetNumber}
 use Rattle.sources.specs.Readings.{workedOut, less, onOk}
+use Rattle.sources.specs.declared.either.Either.{Either}
+use Rattle.sources.specs.declared.either.Either.the-variants.{One, Other}
 use Rattle.sources.specs.declared.estimate.EstimateFigures.{EstimateFigures}
 use Rattle.sources.specs.declared.offset.OffsetFigures.{OffsetFigures}
 use Rattle.sources.specs.declared.overseas.OverseasFigures.{OverseasFigures}
@@ -51,3 +53,8 @@ abbrev pub offsetMeaning : OffsetFigures → Result Reading Fault → Result Rea
 offsetMeaning f below =
     cond (offsetOutOfRange f) (Err (fault FigureOutOfRange 0 offsetNumber))
     (onOk (less (offsetSum f) OffsetsAboveReading offsetNumber) below)
+
+-- one of two sources means what that source means
+abbrev pub eitherMeaning : {A B : Type 0} → (A → Result Reading Fault) → (B → Result Reading Fault) → Either A B → Result Reading Fault
+eitherMeaning one other (One source) = one source
+eitherMeaning one other (Other source) = other source

@@ -18,9 +18,11 @@ use Rattle.faults.specs.declared.Fault.{Fault}
 use Rattle.faults.specs.declared.Refusal.{Refusal}
 use Rattle.faults.specs.declared.Refusal.the-variants.{OverseasAboveReading, OffsetsAboveReading}
 use Rattle.sources.specs.Bottoms.{reportedMeaning, added, physicalMeaning, economicMeaning}
-use Rattle.sources.specs.Layers.{estimateOutOfRange, expected, estimateMeaning, overseasMeaning, offsetOutOfRange, offsetSum, offsetMeaning}
+use Rattle.sources.specs.Layers.{estimateOutOfRange, expected, estimateMeaning, overseasMeaning, offsetOutOfRange, offsetSum, offsetMeaning, eitherMeaning}
 use Rattle.sources.specs.Limits.{mostKilograms, mostTerms, mostOutput, mostMean, physicalNumber, economicNumber, estimateNumber, overseasNumber, offsetNumber}
 use Rattle.sources.specs.Readings.{InLimits, WithinLimits, workedOut, less, onOk}
+use Rattle.sources.specs.declared.either.Either.{Either}
+use Rattle.sources.specs.declared.either.Either.the-variants.{One, Other}
 use Rattle.sources.specs.declared.estimate.EstimateFigures.{EstimateFigures}
 use Rattle.sources.specs.declared.offset.OffsetFigures.{OffsetFigures}
 use Rattle.sources.specs.declared.overseas.OverseasFigures.{OverseasFigures}
@@ -84,3 +86,7 @@ pub offset-within : (f : OffsetFigures) (below : Result Reading Fault) → Withi
 offset-within f below h =
     unless-refused (offsetOutOfRange f) _ _
     (λ _. on-ok-within _ below (λ r e. less-within (offsetSum f) OffsetsAboveReading offsetNumber r (at-ok below r e h)))
+
+pub either-within : {A B : Type 0} (one : A → Result Reading Fault) (other : B → Result Reading Fault) → ((a : A) → WithinLimits (one a)) → ((b : B) → WithinLimits (other b)) → (s : Either A B) → WithinLimits (eitherMeaning one other s)
+either-within one other p q (One source) = p source
+either-within one other p q (Other source) = q source

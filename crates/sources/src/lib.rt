@@ -1,5 +1,6 @@
 // Emission sources, and the layers over them.
 pub mod economic;
+pub mod either;
 pub mod estimate;
 pub mod offset;
 pub mod overseas;
