@@ -3,3 +3,4 @@ pub mod Layers
 pub mod Limits
 pub mod Readings
 pub mod Within
+pub mod Worked

@@ -1,9 +1,12 @@
 // A layer that estimates what was saved since a base period.
 ghost use mathlib.Core.Path.{_≡_};
-ghost use mathlib.Core.Bool.{false};
+ghost use mathlib.Core.Bool.{false, cond};
 ghost use Prim.Native.Nat.{_*_, _≤_};
+ghost use Rattle.std.specs.Slices.{found};
+ghost use Rattle.std.specs.declared.option.Option.the-variants.{Some, None};
 ghost use Rattle.sources.specs.Layers.{estimateOutOfRange, expected, estimateMeaning};
 ghost use Rattle.sources.specs.Limits.{mostPeriodOutput, mostKilograms};
+ghost use Rattle.sources.specs.Readings.{TowardZero};
 ghost use Rattle.sources.specs.Within.{estimate-within};
 use crate::reading::MOST_KILOGRAMS;
 use crate::reading::Reading;
@@ -28,6 +31,19 @@ impl EstimateFigures {
     // The number of the layer.
     pub const NUMBER: u32 = 4;
 
+    // What the base period would have emitted at the output of the report period, in kilograms toward zero; nothing
+    // where a figure is out of range.
+    pub fn expected(self) -> Option<u64>
+        ensures value { λ r. ⌜ r ≡ cond (estimateOutOfRange self) None (Some (expected self)) ⌝ }
+        ensures rounded { λ r. ⌜ found r (TowardZero (self .«report_output» * self .«base_kilograms») (self .«base_output»)) ⌝ }
+        ensures bound { λ r. ⌜ found r (λ kilograms. kilograms ≤ mostPeriodOutput * mostKilograms) ⌝ }
+    {
+        if self.out_of_range() {
+            return None;
+        }
+        Some(self.scaled())
+    }
+
     fn out_of_range(self) -> bool
         ensures { λ r. ⌜ r ≡ estimateOutOfRange self ⌝ }
     {
@@ -37,11 +53,9 @@ impl EstimateFigures {
             || self.base_kilograms > MOST_KILOGRAMS
     }
 
-    // What the base period would have emitted at the output of the report period, toward zero.
-    fn expected(self) -> u64
+    fn scaled(self) -> u64
         requires { ⌜ estimateOutOfRange self ≡ false ⌝ }
-        ensures value { λ r. ⌜ r ≡ expected self ⌝ }
-        ensures bound { λ r. ⌜ r ≤ mostPeriodOutput * mostKilograms ⌝ }
+        ensures { λ r. ⌜ r ≡ expected self ⌝ }
     {
         self.report_output * self.base_kilograms / self.base_output
     }
@@ -63,11 +77,14 @@ pub impl<S: Source> Source for Estimate<S> as EstimateSource {
     ghost within = { λ s. estimate-within (s .figures) (S·Source .meaning (s .below)) (S·Source .within (s .below)) };
 
     fn read(&self) -> Result<Reading, Fault> {
-        if self.figures.out_of_range() {
+        let Some(expected) = self.figures.expected() else {
             return Err(found(Refusal::FigureOutOfRange, EstimateFigures::NUMBER));
-        }
+        };
         let below = self.below.read()?;
-        let saved = self.figures.expected() as i64 - below.kilograms;
-        Reading::worked_out(saved, below.grade, EstimateFigures::NUMBER)
+        Reading::worked_out(
+            expected as i64 - below.kilograms,
+            below.grade,
+            EstimateFigures::NUMBER,
+        )
     }
 }

@@ -8,3 +8,4 @@ pub mod physical;
 pub mod reading;
 pub mod reported;
 pub mod source;
+pub mod worked;

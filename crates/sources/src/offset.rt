@@ -1,7 +1,7 @@
 // A layer that takes off green power and cancelled certificates.
 ghost use mathlib.Core.Path.{_≡_};
-ghost use mathlib.Core.Bool.{false};
-ghost use Prim.Native.Nat.{_≤_};
+ghost use mathlib.Core.Bool.{cond};
+ghost use Rattle.std.specs.declared.option.Option.the-variants.{Some, None};
 ghost use Rattle.sources.specs.Layers.{offsetOutOfRange, offsetSum, offsetMeaning};
 ghost use Rattle.sources.specs.Within.{offset-within};
 use crate::reading::Reading;
@@ -26,18 +26,21 @@ impl OffsetFigures {
     // The number of the layer.
     pub const NUMBER: u32 = 6;
 
+    // The kilograms offset: 570.3 for a megawatt hour, toward zero, and 1,000 for a tonne; nothing where a figure is
+    // out of range.
+    pub fn kilograms(self) -> Option<u64>
+        ensures { λ r. ⌜ r ≡ cond (offsetOutOfRange self) None (Some (offsetSum self)) ⌝ }
+    {
+        if self.out_of_range() {
+            return None;
+        }
+        Some(self.green_power * 5_703 / 10 + 1_000 * (self.ccer + self.tickets))
+    }
+
     fn out_of_range(self) -> bool
         ensures { λ r. ⌜ r ≡ offsetOutOfRange self ⌝ }
     {
         self.green_power > MOST_OFFSET || self.ccer > MOST_OFFSET || self.tickets > MOST_OFFSET
-    }
-
-    // The kilograms offset: 570.3 for a megawatt hour, toward zero, and 1,000 for a tonne.
-    fn sum(self) -> u64
-        requires { ⌜ offsetOutOfRange self ≡ false ⌝ }
-        ensures { λ r. ⌜ r ≡ offsetSum self ⌝ }
-    {
-        self.green_power * 5_703 / 10 + 1_000 * (self.ccer + self.tickets)
     }
 }
 
@@ -56,14 +59,10 @@ pub impl<S: Source> Source for Offset<S> as OffsetSource {
     ghost within = { λ s. offset-within (s .figures) (S·Source .meaning (s .below)) (S·Source .within (s .below)) };
 
     fn read(&self) -> Result<Reading, Fault> {
-        if self.figures.out_of_range() {
+        let Some(offsets) = self.figures.kilograms() else {
             return Err(found(Refusal::FigureOutOfRange, OffsetFigures::NUMBER));
-        }
+        };
         let below = self.below.read()?;
-        below.without(
-            self.figures.sum(),
-            Refusal::OffsetsAboveReading,
-            OffsetFigures::NUMBER,
-        )
+        below.without(offsets, Refusal::OffsetsAboveReading, OffsetFigures::NUMBER)
     }
 }

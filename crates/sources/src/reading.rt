@@ -1,7 +1,8 @@
 // What a source reads.
 ghost use mathlib.Core.Path.{_≡_};
+ghost use Rattle.std.specs.Vec.{made};
 ghost use Rattle.faults.specs.Refusals.{fault};
-ghost use Rattle.sources.specs.Readings.{workedOut, less};
+ghost use Rattle.sources.specs.Readings.{workedOut, less, LeftOf};
 use faults::Fault;
 use faults::Refusal;
 
@@ -28,7 +29,8 @@ impl Reading {
 
     // The reading less a part of it, unless the part is above the reading.
     pub fn without(self, part: u64, refusal: Refusal, source: u32) -> Result<Reading, Fault>
-        ensures { λ r. ⌜ r ≡ less part refusal source self ⌝ }
+        ensures value { λ r. ⌜ r ≡ less part refusal source self ⌝ }
+        ensures left { λ r. ⌜ made r (LeftOf self part) ⌝ }
     {
         if self.kilograms < 0 || part > self.kilograms as u64 {
             return Err(found(refusal, source));

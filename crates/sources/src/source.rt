@@ -22,3 +22,11 @@ pub trait Source {
     fn read(&self) -> Result<Reading, Fault>
         ensures { λ r. ⌜ r ≡ meaning (now (self .entry)) ⌝ };
 }
+
+// The reading of any source, with the limits that every source shows.
+pub fn read_within_limits<S: Source>(source: &S) -> Result<Reading, Fault>
+    ensures value { λ r. ⌜ r ≡ S·Source .meaning (now (source .entry)) ⌝ }
+    ensures limits { λ r. ⌜ WithinLimits r ⌝ }
+{
+    source.read()
+}
