@@ -1,5 +1,6 @@
 pub mod Bottoms
 pub mod Layers
+pub mod Layout
 pub mod Limits
 pub mod Readings
 pub mod Within

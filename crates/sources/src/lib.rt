@@ -2,6 +2,7 @@
 pub mod economic;
 pub mod either;
 pub mod estimate;
+pub mod layout;
 pub mod offset;
 pub mod overseas;
 pub mod physical;
