@@ -29,7 +29,7 @@ use Rattle.sources.specs.declared.overseas.OverseasFigures.{OverseasFigures}
 use Rattle.sources.specs.declared.reading.Reading.{Reading}
 
 -- a refusal that is tried first
-unless-refused : (refused : Bool) (f : Fault) (m : Result Reading Fault) → (refused ≡ false → WithinLimits m) → WithinLimits (cond refused (Err f) m)
+pub unless-refused : (refused : Bool) (f : Fault) (m : Result Reading Fault) → (refused ≡ false → WithinLimits m) → WithinLimits (cond refused (Err f) m)
 unless-refused true f m h = tt
 unless-refused false f m h = h refl
 
