@@ -9,4 +9,6 @@ pub mod physical;
 pub mod reading;
 pub mod reported;
 pub mod source;
+#[cfg(test)]
+mod tests;
 pub mod worked;
