@@ -1,4 +1,7 @@
--- What the sources that stand on no other mean. A fault is a refusal, a place and a source's number.
+-- What the sources that stand on no other mean.
+--   cond b x y    x where the test b holds, else y
+--   ltb a b       whether a < b, so that `ltb most n` says that n is above its limit
+--   fault r p s   the refusal r at the place p, found by the source of number s
 use mathlib.Core.Bool.{Bool, cond, _||_}
 use mathlib.Core.List.{List}
 use Prim.Native.Nat.{ℕ, _+_, _*_}

@@ -1,5 +1,8 @@
 -- What the layers mean over any meaning below. Each tries its own figures first, passes a fault from below on as it
--- is, and keeps the grade. A fault is a refusal, a place and a source's number.
+-- is, and keeps the grade.
+--   f          the layer's figures
+--   below      what the source under the layer means
+--   onOk k m   k of the reading that m is; a fault stays
 use mathlib.Core.Bool.{Bool, cond, _||_}
 use Prim.Native.Nat.{ℕ, _+_, _*_, _/_}
 use lib.Dec.{eqb, ltb}
@@ -18,7 +21,7 @@ use Rattle.sources.specs.declared.offset.OffsetFigures.{OffsetFigures}
 use Rattle.sources.specs.declared.overseas.OverseasFigures.{OverseasFigures}
 use Rattle.sources.specs.declared.reading.Reading.{Reading}
 
--- estimate: an output of 0 in the base period has nothing to compare with
+-- estimate: the figures; with no output in the base period there is nothing to compare with
 abbrev pub estimateOutOfRange : EstimateFigures → Bool
 estimateOutOfRange f =
     ltb mostPeriodOutput (f .«report_output») ||
@@ -28,18 +31,19 @@ estimateOutOfRange f =
 abbrev pub expected : EstimateFigures → ℕ
 expected f = f .«report_output» * f .«base_kilograms» / f .«base_output»
 
--- what was saved against that: less than 0 where more was emitted
+-- estimate: what was saved against that, below 0 where more was emitted
 abbrev pub estimateMeaning : EstimateFigures → Result Reading Fault → Result Reading Fault
 estimateMeaning f below =
     cond (estimateOutOfRange f) (Err (fault FigureOutOfRange 0 estimateNumber))
     (onOk (λ r. workedOut (pos (expected f) -ℤ r .kilograms) (r .grade) estimateNumber) below)
 
--- overseas cut: the part of the emissions that arises overseas
+-- overseas cut: less the part that arises overseas
 abbrev pub overseasMeaning : OverseasFigures → Result Reading Fault → Result Reading Fault
 overseasMeaning f below =
     cond (ltb mostKilograms (f .part)) (Err (fault FigureOutOfRange 0 overseasNumber))
     (onOk (less (f .part) OverseasAboveReading overseasNumber) below)
 
+-- offset: the figures
 abbrev pub offsetOutOfRange : OffsetFigures → Bool
 offsetOutOfRange f =
     ltb mostOffset (f .«green_power») || (ltb mostOffset (f .ccer) || ltb mostOffset (f .tickets))
@@ -48,7 +52,7 @@ offsetOutOfRange f =
 abbrev pub offsetSum : OffsetFigures → ℕ
 offsetSum f = f .«green_power» * 5703 / 10 + 1000 * (f .ccer + f .tickets)
 
--- offset
+-- offset: less that sum
 abbrev pub offsetMeaning : OffsetFigures → Result Reading Fault → Result Reading Fault
 offsetMeaning f below =
     cond (offsetOutOfRange f) (Err (fault FigureOutOfRange 0 offsetNumber))

@@ -2,7 +2,7 @@
 ghost use mathlib.Core.Path.{_≡_};
 ghost use mathlib.Core.Bool.{false, cond};
 ghost use Prim.Native.Nat.{_*_, _≤_};
-ghost use Rattle.std.specs.Slices.{found};
+ghost use Rattle.std.specs.Slices.{found as inSome};
 ghost use Rattle.std.specs.declared.option.Option.the-variants.{Some, None};
 ghost use Rattle.sources.specs.Layers.{estimateOutOfRange, expected, estimateMeaning};
 ghost use Rattle.sources.specs.Limits.{mostPeriodOutput, mostKilograms};
@@ -35,8 +35,8 @@ impl EstimateFigures {
     // where a figure is out of range.
     pub fn expected(self) -> Option<u64>
         ensures value { λ r. ⌜ r ≡ cond (estimateOutOfRange self) None (Some (expected self)) ⌝ }
-        ensures rounded { λ r. ⌜ found r (TowardZero (self .«report_output» * self .«base_kilograms») (self .«base_output»)) ⌝ }
-        ensures bound { λ r. ⌜ found r (λ kilograms. kilograms ≤ mostPeriodOutput * mostKilograms) ⌝ }
+        ensures rounded { λ r. ⌜ inSome r (TowardZero (self .«report_output» * self .«base_kilograms») (self .«base_output»)) ⌝ }
+        ensures bound { λ r. ⌜ inSome r (λ kilograms. kilograms ≤ mostPeriodOutput * mostKilograms) ⌝ }
     {
         if self.out_of_range() {
             return None;
