@@ -19,7 +19,7 @@ pub const MOST_HOURS_DOWN: u64 = 100;
 pub const GAUGE_DOWN: Refusal = Refusal::Custom(7_001);
 
 // What a gauge counted in a year, and the hours in which it stood still: both numbers may be anything.
-#[derive(Clone, Copy, Debug, PartialEq, Eq)]
+#[derive(Clone, Copy)]
 pub struct GaugeLog {
     pub kilograms: u64,
     pub hours_down: u64,

@@ -17,7 +17,7 @@ pub const MOST_OUTPUT: u64 = 500_000_000;
 pub const MOST_MEAN: u64 = 1_000_000;
 
 // An output and the mean of its sector, as a caller sends them: both numbers may be anything.
-#[derive(Clone, Copy, Debug, PartialEq, Eq)]
+#[derive(Clone, Copy)]
 pub struct Economic {
     pub output: u64,
     pub mean: u64,

@@ -20,7 +20,7 @@ pub const MOST_PERIOD_OUTPUT: u64 = 9_000_000;
 
 // The output of the report period and of the base period, in wan, and what the base period emitted, as a caller
 // sends them: all three numbers may be anything.
-#[derive(Clone, Copy, Debug, PartialEq, Eq)]
+#[derive(Clone, Copy)]
 pub struct EstimateFigures {
     pub report_output: u64,
     pub base_output: u64,

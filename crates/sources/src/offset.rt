@@ -15,7 +15,7 @@ pub const MOST_OFFSET: u64 = 1_000_000_000;
 
 // Megawatt hours of green power, and tonnes of cancelled CCER and of cancelled forestry tickets, as a caller sends
 // them: all three numbers may be anything.
-#[derive(Clone, Copy, Debug, PartialEq, Eq)]
+#[derive(Clone, Copy)]
 pub struct OffsetFigures {
     pub green_power: u64,
     pub ccer: u64,

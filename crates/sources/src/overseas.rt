@@ -9,7 +9,7 @@ use faults::Fault;
 use faults::Refusal;
 
 // The kilograms that arise overseas, as a caller sends them: any number.
-#[derive(Clone, Copy, Debug, PartialEq, Eq)]
+#[derive(Clone, Copy)]
 pub struct OverseasFigures {
     pub part: u64,
 }

@@ -16,7 +16,7 @@ pub const VERIFIED: u64 = 1;
 pub const DISCLOSED: u64 = 2;
 
 // A report with its mark, as a caller sends them: both numbers may be anything.
-#[derive(Clone, Copy, Debug, PartialEq, Eq)]
+#[derive(Clone, Copy)]
 pub struct Reported {
     pub kilograms: u64,
     pub mark: u64,
