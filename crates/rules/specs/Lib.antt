@@ -1,0 +1,4 @@
+pub mod Months
+pub mod Kinds
+pub mod Figures
+pub mod Investees

@@ -1,0 +1,7 @@
+// Attribution rules: what an investee's exposures are divided by, and whether it is counted.
+pub mod figures;
+pub mod investees;
+pub mod kinds;
+
+// The months of a book's year.
+pub const MONTHS: u64 = 12;
