@@ -2,3 +2,9 @@ pub mod Months
 pub mod Kinds
 pub mod Figures
 pub mod Investees
+pub mod Tables
+pub mod Attributions
+pub mod Reasons
+pub mod National
+pub mod Pudong
+pub mod Lawful

@@ -1,6 +1,7 @@
 // The figures of an investee's accounts, and what a rule divides by.
 ghost use mathlib.Core.Path.{_≡_};
-ghost use Rattle.rules.specs.Figures.{withinLimits};
+ghost use Rattle.rules.specs.Figures.{withinLimits, given, givenOrWhole};
+use faults::Refusal;
 
 // The largest figure, in wan; one wan is ten thousand yuan.
 pub const MOST_FIGURE: u64 = 500_000_000;
@@ -31,4 +32,26 @@ impl Figures {
 pub enum Base {
     Amount(u64),
     Whole,
+}
+
+impl Base {
+    // A figure as a base, which has to be given.
+    pub fn given(figure: u64) -> Result<Base, Refusal>
+        ensures { λ r. ⌜ r ≡ given figure ⌝ }
+    {
+        match figure {
+            0 => Err(Refusal::FigureNotGiven),
+            _ => Ok(Base::Amount(figure)),
+        }
+    }
+
+    // A figure as a base, or whatever the exposures add up to where it is not given.
+    pub fn given_or_whole(figure: u64) -> Result<Base, Refusal>
+        ensures { λ r. ⌜ r ≡ givenOrWhole figure ⌝ }
+    {
+        match figure {
+            0 => Ok(Base::Whole),
+            _ => Ok(Base::Amount(figure)),
+        }
+    }
 }

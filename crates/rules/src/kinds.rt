@@ -1,5 +1,6 @@
 // What is financed, and how large the investee is.
 ghost use mathlib.Core.Path.{_≡_};
+ghost use Rattle.std.specs.declared.option.Option.the-variants.{Some};
 ghost use Rattle.rules.specs.Kinds.{kindNumber, kindNumbered, sizeNumber, sizeNumbered};
 
 // What the money is lent for, or how.
@@ -16,7 +17,8 @@ pub enum Kind {
 impl Kind {
     // The number that files and reports have for the kind.
     pub fn number(self) -> u8
-        ensures { λ r. ⌜ r ≡ kindNumber self ⌝ }
+        ensures value { λ r. ⌜ r ≡ kindNumber self ⌝ }
+        ensures back { λ r. ⌜ kindNumbered r ≡ Some self ⌝ }
     {
         self as u8
     }
@@ -50,7 +52,8 @@ pub enum Size {
 impl Size {
     // The number that files have for the size.
     pub fn number(self) -> u8
-        ensures { λ r. ⌜ r ≡ sizeNumber self ⌝ }
+        ensures value { λ r. ⌜ r ≡ sizeNumber self ⌝ }
+        ensures back { λ r. ⌜ sizeNumbered r ≡ Some self ⌝ }
     {
         self as u8
     }
