@@ -16,28 +16,43 @@ use faults::RefusalDebug;
 use faults::RefusalPartialEq;
 use std::test::*;
 
+// The reasons of National and of Pudong for a kind, a size, days, exposure and closing balance.
+fn reasons(kind: Kind, size: Size, days: u64, exposure: u64, closing: u64) -> (u8, u8) {
+    (
+        National.reason(kind, size, days, exposure, closing),
+        Pudong.reason(kind, size, days, exposure, closing),
+    )
+}
+
 #[test]
 fn guides_at_their_limits() -> Result<(), Fail> {
-    // kind, size, days, exposure, closing; the reasons of National and of Pudong
-    let cases = [
-        (Kind::GeneralLoan, Size::Medium, 29, 6_000, 1, 1, 1),
-        (Kind::GeneralLoan, Size::Medium, 30, 6_000, 1, 0, 0),
-        (Kind::GeneralLoan, Size::Medium, 30, 5_999, 1, 2, 2),
-        (Kind::GeneralLoan, Size::Small, 30, 6_000, 1, 3, 3),
-        (Kind::GeneralLoan, Size::Medium, 30, 6_000, 0, 0, 4),
-        (Kind::GeneralLoan, Size::Person, 29, 5_999, 0, 1, 1),
-        (Kind::Project, Size::Person, 30, 0, 1, 0, 3),
-        (Kind::Vehicle, Size::Large, 29, 0, 0, 0, 1),
-        (Kind::Bond, Size::Person, 0, 0, 0, 0, 0),
-    ];
-    for (kind, size, days, exposure, closing, national, pudong) in cases {
-        check_eq(
-            National.reason(kind, size, days, exposure, closing),
-            national,
-        )?;
-        check_eq(Pudong.reason(kind, size, days, exposure, closing), pudong)?;
-    }
-    Ok(())
+    check_eq(
+        reasons(Kind::GeneralLoan, Size::Medium, 29, 6_000, 1),
+        (1, 1),
+    )?;
+    check_eq(
+        reasons(Kind::GeneralLoan, Size::Medium, 30, 6_000, 1),
+        (0, 0),
+    )?;
+    check_eq(
+        reasons(Kind::GeneralLoan, Size::Medium, 30, 5_999, 1),
+        (2, 2),
+    )?;
+    check_eq(
+        reasons(Kind::GeneralLoan, Size::Small, 30, 6_000, 1),
+        (3, 3),
+    )?;
+    check_eq(
+        reasons(Kind::GeneralLoan, Size::Medium, 30, 6_000, 0),
+        (0, 4),
+    )?;
+    check_eq(
+        reasons(Kind::GeneralLoan, Size::Person, 29, 5_999, 0),
+        (1, 1),
+    )?;
+    check_eq(reasons(Kind::Project, Size::Person, 30, 0, 1), (0, 3))?;
+    check_eq(reasons(Kind::Vehicle, Size::Large, 29, 0, 0), (0, 1))?;
+    check_eq(reasons(Kind::Bond, Size::Person, 0, 0, 0), (0, 0))
 }
 
 #[test]

@@ -1,0 +1,3 @@
+pub mod ByAssets
+pub mod Nobody
+pub mod FromDays
