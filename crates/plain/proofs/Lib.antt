@@ -1,3 +1,4 @@
+pub mod Lists
 pub mod Integers
 pub mod Fractions
 pub mod Rounding
@@ -5,3 +6,4 @@ pub mod Sums
 pub mod Parts
 pub mod Kilograms
 pub mod ShutOut
+pub mod Accepted

@@ -12,6 +12,7 @@ use Rattle.std.specs.shelf.Lists.{All}
 use Rattle.std.proofs.shelf.Tests.{ne-eqb, cond-true, cond-false, cases-lt}
 use Rattle.plain.specs.Branches.{branches, branchCount}
 use Rattle.plain.specs.Fractions.{_over_}
+use Rattle.plain.specs.Lists.{Pairwise}
 use Rattle.plain.specs.Parts.{Lent, Denominator, atLeast, whole, Apportionment, exposures, exposureAt, exposureBefore, baseOf, base, ReachedBy, Reached, share, allShares, part, total, OncePerBranch, AboveZero, Orderly}
 use Rattle.plain.specs.Rounding.{rounded, PartNearShare, TotalNearExactSum, TotalIsFigureWhen}
 use Rattle.plain.specs.Sums.{sumOver}
@@ -70,6 +71,10 @@ part-uncounted a b e = cond-false (a .counted) _ _ e
 
 -- ---- all parts
 
+fewer : (l : Lent) (ls : List Lent) → OncePerBranch (l ∷ ls) → OncePerBranch ls
+unfolding Pairwise
+fewer l ls ok = record { branches-in-range = ok .branches-in-range .1; branches-differ = ok .branches-differ .1 }
+
 -- what branch b adds to the rounded figure after exposures c
 pub partAfter : ℤ → ℕ → ℕ → List Lent → ℕ → ℤ
 partAfter F B c ls b = rounded F (c + (exposureBefore ls b + exposureAt ls b)) B -ℤ rounded F (c + exposureBefore ls b) B
@@ -97,15 +102,15 @@ part-after-cons F B c l ls b = by (eqb (l .branch) b) (l .exposure) (exposureBef
     by false e x y = ap₂ (λ m n. rounded F m B -ℤ rounded F n B) (omega arith) (omega arith)
 
 parts-after-add : (F : ℤ) (B c : ℕ) (ls : List Lent) → OncePerBranch ls → sumOver branches (partAfter F B c ls) ≡ rounded F (c + exposures ls) B -ℤ rounded F c B
-unfolding exposures OncePerBranch
+unfolding exposures Pairwise
 parts-after-add F B c [] ok =
     sum-same branches _ _ (λ b. part-after-none F B c [] b tt) ∙ sum-zero branches
     ∙ sym (ap (λ n. rounded F n B -ℤ rounded F c B) (add-zero c) ∙ +ℤ-invr (rounded F c B))
 parts-after-add F B c (l ∷ ls) ok =
     let e = l .exposure in
     sum-same branches _ _ (part-after-cons F B c l ls)
-    ∙ sum-pick branchCount (l .branch) (rounded F (c + e) B -ℤ rounded F c B) (partAfter F B (c + e) ls) (ok .0 .0) (ok .0 .1) (part-after-none F B (c + e) ls (l .branch) (ok .1))
-    ∙ ap (λ z. (rounded F (c + e) B -ℤ rounded F c B) +ℤ z) (parts-after-add F B (c + e) ls (ok .2))
+    ∙ sum-pick branchCount (l .branch) (rounded F (c + e) B -ℤ rounded F c B) (partAfter F B (c + e) ls) (ok .branches-in-range .0 .0) (ok .branches-in-range .0 .1) (part-after-none F B (c + e) ls (l .branch) (ok .branches-differ .0))
+    ∙ ap (λ z. (rounded F (c + e) B -ℤ rounded F c B) +ℤ z) (parts-after-add F B (c + e) ls (fewer l ls ok))
     ∙ telescope (rounded F (c + e) B) (rounded F c B) (rounded F (c + e + exposures ls) B)
     ∙ ap (λ n. rounded F n B -ℤ rounded F c B) (omega arith)
   where
@@ -146,12 +151,12 @@ total-whole a ok counts n =
 -- ---- the exact shares
 
 exposures-add : (ls : List Lent) → OncePerBranch ls → sumOver branches (λ b. pos (exposureAt ls b)) ≡ pos (exposures ls)
-unfolding exposureAt exposures OncePerBranch
+unfolding exposureAt exposures Pairwise
 exposures-add [] ok = sum-zero branches
 exposures-add (l ∷ ls) ok =
     sum-same branches _ _ (λ b. inside (eqb (l .branch) b) (l .exposure) (exposureAt ls b))
-    ∙ sum-pick branchCount (l .branch) (pos (l .exposure)) (λ b. pos (exposureAt ls b)) (ok .0 .0) (ok .0 .1) (ap pos (exposure-none ls (l .branch) (ok .1)))
-    ∙ ap (λ z. pos (l .exposure) +ℤ z) (exposures-add ls (ok .2))
+    ∙ sum-pick branchCount (l .branch) (pos (l .exposure)) (λ b. pos (exposureAt ls b)) (ok .branches-in-range .0 .0) (ok .branches-in-range .0 .1) (ap pos (exposure-none ls (l .branch) (ok .branches-differ .0)))
+    ∙ ap (λ z. pos (l .exposure) +ℤ z) (exposures-add ls (fewer l ls ok))
   where
     inside : (t : Bool) (m n : ℕ) → pos (cond t m n) ≡ cond t (pos m) (pos n)
     inside true m n = refl

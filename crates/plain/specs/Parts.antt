@@ -13,6 +13,7 @@ use lib.IntN.{ℤ, pos, _-ℤ_, _*ℤ_}
 use Rattle.std.specs.shelf.Lists.{All, countBy}
 use Rattle.plain.specs.Branches.{Branch, branches}
 use Rattle.plain.specs.Fractions.{Fraction, _over_, sumOfFractions}
+use Rattle.plain.specs.Lists.{Pairwise}
 use Rattle.plain.specs.Rounding.{rounded}
 use Rattle.plain.specs.Sums.{sumOver}
 
@@ -107,9 +108,9 @@ bookTotal all = sumOver all total
 -- ---- what the sums rest on
 
 -- every branch is one of the lender's, and stands once
-unfoldable pub OncePerBranch : List Lent → Type 0
-OncePerBranch [] = Unit {0}
-OncePerBranch (l ∷ ls) = Branch (l .branch) × All (λ m. m .branch ≢ l .branch) ls × OncePerBranch ls
+pub record OncePerBranch (ls : List Lent) : Type 0 where
+  pub branches-in-range : All (λ l. Branch (l .branch)) ls
+  pub branches-differ : Pairwise (λ l m. m .branch ≢ l .branch) ls
 
 abbrev pub AboveZero : Denominator → Type 0
 AboveZero (atLeast w) = 0 < w

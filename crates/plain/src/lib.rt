@@ -2,6 +2,9 @@
 ghost use Rattle.plain.specs.Kilograms.{DefinedAnswersKeepKilograms, TotalIsRoundedOnce};
 ghost use Rattle.plain.specs.ShutOut.{SimplerAnswersShutOut};
 
+pub mod answers;
+pub mod limits;
+
 // Parts, totals, sheets and book totals, worked out as defined, gain and lose no kilogram.
 pub fn defined_answers_keep_kilograms()
     ensures { λ _. ⌜ DefinedAnswersKeepKilograms ⌝ }

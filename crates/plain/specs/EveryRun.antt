@@ -1,0 +1,56 @@
+-- That no kilogram is gained or lost by any run of any book, under any rule and with any sources.
+use mathlib.Core.List.{List}
+use mathlib.Core.Path.{_≡_}
+use Prim.Native.Nat.{ℕ}
+use lib.IntN.{ℤ, pos, _+ℤ_}
+use lib.ListN.{take}
+use Rattle.std.specs.shelf.Lists.{All}
+use Rattle.rules.specs.Tables.{Tables, Lawful}
+use Rattle.plain.specs.declared.answers.Answer.{Answer}
+use Rattle.plain.specs.declared.answers.Answer.the-variants.{Done, Declined, Part, Total, Sheet, Book}
+use Rattle.plain.specs.declared.answers.BookTotal.{BookTotal}
+use Rattle.plain.specs.declared.answers.Kilograms.{Kilograms}
+use Rattle.plain.specs.Exposures.{Measure, emissions, reductions, apportionments}
+use Rattle.plain.specs.Kept.{KeptByEveryRun, KeptUnderRule}
+use Rattle.plain.specs.Kilograms.{NoKilogramGainedOrLost}
+use Rattle.plain.specs.PlainBook.{PlainBook, empty}
+use Rattle.plain.specs.Runs.{answer, run}
+use Rattle.plain.specs.Steps.{Step, askPart, askTotal, askSheet, askBookTotal, WithinSourceLimits}
+
+abbrev pub measured : Measure → Kilograms → ℤ
+measured emissions k = k .emissions
+measured reductions k = k .reductions
+
+-- the kilograms that an answer tells; the book total is that for all kinds
+abbrev pub kilogramsIn : Measure → Answer → ℤ
+kilogramsIn m Done = pos 0
+kilogramsIn m (Declined f) = pos 0
+kilogramsIn m (Part k) = measured m k
+kilogramsIn m (Total k) = measured m (k .kilograms)
+kilogramsIn m (Sheet k) = measured m k
+kilogramsIn m (Book k) = measured m (k .all .kilograms)
+
+-- the book total for projects and that for the rest make the book total for all
+abbrev pub ProjectsAndRestMakeAll : Measure → BookTotal → Type 0
+ProjectsAndRestMakeAll m k = measured m (k .projects .kilograms) +ℤ measured m (k .rest .kilograms) ≡ measured m (k .all .kilograms)
+
+-- The answers that are asked of a book with this plain book, in one measure. Who gives them, and how, is left open.
+pub record KeepsEveryKilogram (t : Tables) (p : PlainBook) (m : Measure) (ask : Step → Answer) : Type 0 where
+  pub no-kilogram-gained-or-lost :
+    NoKilogramGainedOrLost (apportionments t p m)
+    (λ id branch. kilogramsIn m (ask (askPart id branch)))
+    (λ id. kilogramsIn m (ask (askTotal id)))
+    (λ branch. kilogramsIn m (ask (askSheet branch)))
+    (kilogramsIn m (ask askBookTotal))
+  pub projects-and-rest-make-all : (k : BookTotal) → ask askBookTotal ≡ Book k → ProjectsAndRestMakeAll m k
+
+-- of the plain book that a run has come to
+pub record HoldsAt (t : Tables) (p : PlainBook) : Type 0 where
+  pub kept : KeptByEveryRun p
+  pub kept-under-rule : KeptUnderRule t p
+  pub kilograms : (m : Measure) → KeepsEveryKilogram t p m (answer t p)
+
+-- at each point of every run: before its first call, and after each of its calls
+abbrev pub EveryRunKeepsEveryKilogram : Type 0
+EveryRunKeepsEveryKilogram =
+    (t : Tables) → Lawful t → (calls : List Step) → All WithinSourceLimits calls → (k : ℕ) → HoldsAt t (run t empty (take k calls))
