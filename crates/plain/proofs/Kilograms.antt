@@ -9,7 +9,7 @@ use Rattle.std.proofs.shelf.Elements.{all-weaker}
 use Rattle.std.proofs.shelf.Sums.{sumBy-cons}
 use Rattle.plain.specs.Branches.{Branch, branches}
 use Rattle.plain.specs.Fractions.{sumOfFractions}
-use Rattle.plain.specs.Kilograms.{PartsMakeTheTotal, NoKilogramGainedOrLost, AnsweredAsDefined, DefinedAnswersKeepKilograms}
+use Rattle.plain.specs.Kilograms.{PartsMakeTheTotal, NoKilogramGainedOrLost}
 use Rattle.plain.specs.Parts.{Apportionment, Orderly, share, allShares, exactSum, countedIn, part, total, sheet, bookTotal}
 use Rattle.plain.specs.Rounding.{PartNearShare, TotalNearExactSum, TotalIsFigureWhen}
 use Rattle.plain.specs.Sums.{sumOver}
@@ -42,7 +42,15 @@ each [] partOf totalOf ok parts totals = tt
 each (a ∷ all) partOf totalOf ok parts totals =
     (of-one a (ok .0) (partOf (a .id)) (totalOf (a .id)) (parts .0) (totals .0), each all partOf totalOf (ok .1) (parts .1) (totals .1))
 
-pub kilograms-kept : DefinedAnswersKeepKilograms
+-- these answers are what the definitions of parts, totals, sheets and the book total give
+pub record AnsweredAsDefined (all : List Apportionment) (partOf : ℕ → ℕ → ℤ) (totalOf : ℕ → ℤ) (sheetOf : ℕ → ℤ) (bookTotalIs : ℤ) : Type 0 where
+  pub parts : All (λ a. (b : ℕ) → Branch b → partOf (a .id) b ≡ part a b) all
+  pub totals : All (λ a. totalOf (a .id) ≡ total a) all
+  pub sheets : (b : ℕ) → Branch b → sheetOf b ≡ sheet all b
+  pub book-total : bookTotalIs ≡ bookTotal all
+
+pub kilograms-kept : (all : List Apportionment) → All Orderly all → (partOf : ℕ → ℕ → ℤ) (totalOf sheetOf : ℕ → ℤ) (bookTotalIs : ℤ)
+    → AnsweredAsDefined all partOf totalOf sheetOf bookTotalIs → NoKilogramGainedOrLost all partOf totalOf sheetOf bookTotalIs
 kilograms-kept all ok partOf totalOf sheetOf bookTotalIs as-defined = record {
   of-each-investee = each all partOf totalOf ok (as-defined .parts) (as-defined .totals);
   parts-add-up-to-sheet = λ b h. sum-all all _ _ (all-weaker _ _ (λ a p. p b h) all (as-defined .parts)) ∙ sym (as-defined .sheets b h);

@@ -62,9 +62,9 @@ pub found-by-key : {X : Type 0} (key : X → ℕ) (xs : List X) → Pairwise (λ
 unfolding firstOf Pairwise
 found-by-key key [] ok = tt
 found-by-key {X} key (x ∷ xs) ok = (
-    cond-true (eqb (key x) (key x)) _ _ (eq-eqb (key x) (key x) refl),
-    all-weaker _ _ later xs (all-both _ _ xs (ok .0) (found-by-key key xs (ok .1))),
-  )
+  cond-true (eqb (key x) (key x)) _ _ (eq-eqb (key x) (key x) refl),
+  all-weaker _ _ later xs (all-both _ _ xs (ok .0) (found-by-key key xs (ok .1))),
+)
   where
     later : (y : X) → (key y ≢ key x) × (firstOf (λ z. eqb (key z) (key y)) xs ≡ Some y) → cond (eqb (key x) (key y)) (Some x) (firstOf (λ z. eqb (key z) (key y)) xs) ≡ Some y
     later y h = cond-false (eqb (key x) (key y)) _ _ (ne-eqb (key x) (key y) (λ e. h .0 (sym e))) ∙ h .1

@@ -1,15 +1,15 @@
 -- Sums over lists: termwise, of nothing, in either order, and of a list in which one place is picked out.
 use mathlib.Core.Path.{_≡_, refl, sym, ap, ap₂, _∙_, fun-ext}
 use mathlib.Core.Logic.{_≢_, inl, inr, _⊎_}
-use mathlib.Core.Bool.{Bool, true, false, cond}
-use mathlib.Core.List.{List, [], _∷_}
+use mathlib.Core.Bool.{Bool, true, false, cond, not}
+use mathlib.Core.List.{List, [], _∷_, map}
 use Prim.Native.Nat.{ℕ, zero, suc, _+_, _≤_, _<_}
 use native.Mathlib.Omega.{arith}
 use lib.Dec.{eqb}
 use lib.IntN.{ℤ, pos, negℤ, _+ℤ_, _-ℤ_, _*ℤ_, +ℤ-idl, *ℤ-zero}
 use Rattle.std.proofs.shelf.Tests.{eq-eqb, ne-eqb, cases-eq, cond-true, cond-false}
 use Rattle.plain.specs.Sums.{sumOver, downFrom}
-use Rattle.std.specs.shelf.Lists.{All}
+use Rattle.std.specs.shelf.Lists.{All, kept-by}
 use Rattle.plain.specs.Branches.{Branch, branches, branchCount}
 use Rattle.plain.proofs.Integers.{mul-add, linear}
 
@@ -79,3 +79,25 @@ all-down (suc n) P h = (h (suc n) (omega arith) (omega arith), all-down n P (λ 
 
 pub sum-branches : (f g : ℕ → ℤ) → ((b : ℕ) → Branch b → f b ≡ g b) → sumOver branches f ≡ sumOver branches g
 sum-branches f g h = sum-all branches f g (all-down branchCount (λ b. f b ≡ g b) (λ b p q. h b (p, q)))
+
+pub sum-map : {X Y : Type 0} (f : X → Y) (xs : List X) (g : Y → ℤ) → sumOver (map f xs) g ≡ sumOver xs (λ x. g (f x))
+unfolding sumOver
+sum-map f [] g = refl
+sum-map f (x ∷ xs) g = ap (λ z. g (f x) +ℤ z) (sum-map f xs g)
+
+-- those that pass a test, and the rest
+pub sum-split : {X : Type 0} (test : X → Bool) (f : X → ℤ) (xs : List X) → sumOver (kept-by test xs) f +ℤ sumOver (kept-by (λ x. not (test x)) xs) f ≡ sumOver xs f
+unfolding sumOver
+sum-split test f [] = refl
+sum-split {X} test f (x ∷ xs) = by (test x) (sum-split test f xs)
+  where
+    with-first : (a b c : ℤ) → (a +ℤ b) +ℤ c ≡ a +ℤ (b +ℤ c)
+    with-first a b c = omega (arith, linear)
+
+    with-second : (a b c : ℤ) → b +ℤ (a +ℤ c) ≡ a +ℤ (b +ℤ c)
+    with-second a b c = omega (arith, linear)
+
+    by : (t : Bool) → sumOver (kept-by test xs) f +ℤ sumOver (kept-by (λ y. not (test y)) xs) f ≡ sumOver xs f
+        → sumOver (cond t (x ∷ kept-by test xs) (kept-by test xs)) f +ℤ sumOver (cond (not t) (x ∷ kept-by (λ y. not (test y)) xs) (kept-by (λ y. not (test y)) xs)) f ≡ f x +ℤ sumOver xs f
+    by true rest = with-first (f x) _ _ ∙ ap (λ z. f x +ℤ z) rest
+    by false rest = with-second (f x) _ _ ∙ ap (λ z. f x +ℤ z) rest

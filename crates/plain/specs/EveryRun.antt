@@ -37,11 +37,11 @@ ProjectsAndRestMakeAll m k = measured m (k .projects .kilograms) +ℤ measured m
 -- The answers that are asked of a book with this plain book, in one measure. Who gives them, and how, is left open.
 pub record KeepsEveryKilogram (t : Tables) (p : PlainBook) (m : Measure) (ask : Step → Answer) : Type 0 where
   pub no-kilogram-gained-or-lost :
-    NoKilogramGainedOrLost (apportionments t p m)
-    (λ id branch. kilogramsIn m (ask (askPart id branch)))
-    (λ id. kilogramsIn m (ask (askTotal id)))
-    (λ branch. kilogramsIn m (ask (askSheet branch)))
-    (kilogramsIn m (ask askBookTotal))
+      NoKilogramGainedOrLost (apportionments t p m)
+      (λ id branch. kilogramsIn m (ask (askPart id branch)))
+      (λ id. kilogramsIn m (ask (askTotal id)))
+      (λ branch. kilogramsIn m (ask (askSheet branch)))
+      (kilogramsIn m (ask askBookTotal))
   pub projects-and-rest-make-all : (k : BookTotal) → ask askBookTotal ≡ Book k → ProjectsAndRestMakeAll m k
 
 -- of the plain book that a run has come to

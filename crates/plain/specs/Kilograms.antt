@@ -8,7 +8,7 @@ use Prim.Native.Nat.{ℕ, _≤_}
 use lib.IntN.{ℤ, pos, natAbs}
 use Rattle.std.specs.shelf.Lists.{All}
 use Rattle.plain.specs.Branches.{Branch, branches}
-use Rattle.plain.specs.Parts.{Apportionment, Orderly, exposures, exposureAt, base, share, exactSum, countedIn, Reached, part, total, sheet, bookTotal}
+use Rattle.plain.specs.Parts.{Apportionment, Orderly, exposures, exposureAt, base, share, exactSum, countedIn, Reached, total}
 use Rattle.plain.specs.Rounding.{rounded, PartNearShare, TotalNearExactSum, TotalIsFigureWhen}
 use Rattle.plain.specs.Sums.{sumOver}
 
@@ -28,18 +28,6 @@ pub record NoKilogramGainedOrLost (all : List Apportionment) (partOf : ℕ → �
   pub sheets-add-up-to-book-total : sumOver branches sheetOf ≡ bookTotalIs
   pub totals-add-up-to-book-total : sumOver all (λ a. totalOf (a .id)) ≡ bookTotalIs
   pub book-total-near-exact-sum : TotalNearExactSum (countedIn all) bookTotalIs (exactSum all)
-
--- these answers are what the definitions of parts, totals, sheets and the book total give
-pub record AnsweredAsDefined (all : List Apportionment) (partOf : ℕ → ℕ → ℤ) (totalOf : ℕ → ℤ) (sheetOf : ℕ → ℤ) (bookTotalIs : ℤ) : Type 0 where
-  pub parts : All (λ a. (b : ℕ) → Branch b → partOf (a .id) b ≡ part a b) all
-  pub totals : All (λ a. totalOf (a .id) ≡ total a) all
-  pub sheets : (b : ℕ) → Branch b → sheetOf b ≡ sheet all b
-  pub book-total : bookTotalIs ≡ bookTotal all
-
-abbrev pub DefinedAnswersKeepKilograms : Type 0
-DefinedAnswersKeepKilograms =
-    (all : List Apportionment) → All Orderly all → (partOf : ℕ → ℕ → ℤ) (totalOf sheetOf : ℕ → ℤ) (bookTotalIs : ℤ)
-    → AnsweredAsDefined all partOf totalOf sheetOf bookTotalIs → NoKilogramGainedOrLost all partOf totalOf sheetOf bookTotalIs
 
 -- the total in closed form: the figure, rounded for all exposures together
 abbrev pub TotalIsRoundedOnce : Type 0

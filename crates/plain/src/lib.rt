@@ -1,13 +1,20 @@
 // The plain book: what a book of financed emissions is and answers, as mathematics that the engine's contracts cite.
-ghost use Rattle.plain.specs.Kilograms.{DefinedAnswersKeepKilograms, TotalIsRoundedOnce};
+ghost use Rattle.plain.specs.EveryRun.{EveryRunKeepsEveryKilogram};
+ghost use Rattle.plain.specs.Kept.{KeptByEachCall};
+ghost use Rattle.plain.specs.Kilograms.{TotalIsRoundedOnce};
 ghost use Rattle.plain.specs.ShutOut.{SimplerAnswersShutOut};
 
 pub mod answers;
 pub mod limits;
 
-// Parts, totals, sheets and book totals, worked out as defined, gain and lose no kilogram.
-pub fn defined_answers_keep_kilograms()
-    ensures { λ _. ⌜ DefinedAnswersKeepKilograms ⌝ }
+// No run of calls gains or loses a kilogram, under whatever rule and with whatever sources.
+pub fn every_run_keeps_every_kilogram()
+    ensures { λ _. ⌜ EveryRunKeepsEveryKilogram ⌝ }
+{}
+
+// What a book keeps to is kept by each call, and so by every run.
+pub fn kept_by_each_call()
+    ensures { λ _. ⌜ KeptByEachCall ⌝ }
 {}
 
 // A total needs no sum over branches: it is the figure rounded once.
