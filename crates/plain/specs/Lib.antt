@@ -16,3 +16,5 @@ pub mod Readings
 pub mod Runs
 pub mod Kept
 pub mod EveryRun
+pub mod Worked
+pub mod WorkedRefusals

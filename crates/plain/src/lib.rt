@@ -4,6 +4,8 @@ ghost use Rattle.plain.specs.Kept.{KeptByEachCall};
 ghost use Rattle.plain.specs.Kilograms.{TotalIsRoundedOnce};
 ghost use Rattle.plain.specs.ShutOut.{SimplerAnswersShutOut};
 
+ghost use Rattle.plain.specs.Worked.{WorkedCases};
+ghost use Rattle.plain.specs.WorkedRefusals.{WorkedRefusals};
 pub mod answers;
 pub mod limits;
 
@@ -25,4 +27,14 @@ pub fn total_is_rounded_once()
 // Five ways of parting a figure that look simpler gain or lose kilograms.
 pub fn simpler_answers_shut_out()
     ensures { λ _. ⌜ SimplerAnswersShutOut ⌝ }
+{}
+
+// The definitions answer small books as reckoned by hand.
+pub fn worked_cases()
+    ensures { λ _. ⌜ WorkedCases ⌝ }
+{}
+
+// Where several refusals apply to a call, the one that is due comes first.
+pub fn worked_refusals()
+    ensures { λ _. ⌜ WorkedRefusals ⌝ }
 {}
