@@ -12,3 +12,4 @@ pub mod Profiles
 pub mod Kept
 pub mod UnderRule
 pub mod EveryRun
+pub mod Due

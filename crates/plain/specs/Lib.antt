@@ -18,3 +18,4 @@ pub mod Kept
 pub mod EveryRun
 pub mod Worked
 pub mod WorkedRefusals
+pub mod Due

@@ -61,7 +61,7 @@ fails = Err (fault (Custom 77) 3 12)
 pub record WorkedRefusals : Type 0 where
   -- 12 before 14, 14 before 15, 15 before the rule's 10, 10 and 11 before the source's fault, that fault as it is, and 13
   pub openings : numbers nationalTables loan (opening 7 5 367 10000 fails ∷ opening 7 2 200 0 fails ∷ opening 9 2 200 0 fails ∷ opening 9 5 200 0 fails ∷ opening 9 5 200 10000 fails ∷ opening 9 5 200 10000 (reads (negsuc 0)) ∷ opening 9 5 200 10000 (reads (pos 0)) ∷ [])
-    ≡ 12 ∷ 14 ∷ 10 ∷ 11 ∷ 77 ∷ 13 ∷ 0 ∷ []
+      ≡ 12 ∷ 14 ∷ 10 ∷ 11 ∷ 77 ∷ 13 ∷ 0 ∷ []
   pub openings-of-a-full-book : numbers nationalTables fullOfInvestees (opening 7 2 200 0 fails ∷ opening 9 2 200 0 fails ∷ []) ≡ 14 ∷ 15 ∷ []
   pub a-source's-fault-unchanged : answer nationalTables loan (restate 7 fails) ≡ Declined (fault (Custom 77) 3 12)
   -- 16 before the source's fault; a restatement below zero is declined, and a reduction is not

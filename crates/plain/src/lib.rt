@@ -1,17 +1,23 @@
 // The plain book: what a book of financed emissions is and answers, as mathematics that the engine's contracts cite.
+ghost use Rattle.plain.specs.Due.{RefusedWhenDue};
 ghost use Rattle.plain.specs.EveryRun.{EveryRunKeepsEveryKilogram};
 ghost use Rattle.plain.specs.Kept.{KeptByEachCall};
 ghost use Rattle.plain.specs.Kilograms.{TotalIsRoundedOnce};
 ghost use Rattle.plain.specs.ShutOut.{SimplerAnswersShutOut};
-
 ghost use Rattle.plain.specs.Worked.{WorkedCases};
 ghost use Rattle.plain.specs.WorkedRefusals.{WorkedRefusals};
+
 pub mod answers;
 pub mod limits;
 
 // No run of calls gains or loses a kilogram, under whatever rule and with whatever sources.
 pub fn every_run_keeps_every_kilogram()
     ensures { λ _. ⌜ EveryRunKeepsEveryKilogram ⌝ }
+{}
+
+// Each call is declined with the first refusal that is due, and with no other.
+pub fn refused_when_due()
+    ensures { λ _. ⌜ RefusedWhenDue ⌝ }
 {}
 
 // What a book keeps to is kept by each call, and so by every run.
