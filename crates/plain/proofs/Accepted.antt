@@ -2,7 +2,7 @@
 use mathlib.Core.Bool.{Bool, true, false, not}
 use mathlib.Core.List.{List}
 use mathlib.Core.Path.{_≡_, refl}
-use Prim.Native.Nat.{ℕ, _≤_, _<_}
+use Prim.Native.Nat.{ℕ, _≤_}
 use native.Mathlib.Omega.{arith}
 use lib.Dec.{ltb, leb}
 use lib.ListN.{length}
@@ -25,7 +25,7 @@ use Rattle.plain.specs.Changes.{posted, amended}
 use Rattle.plain.specs.Limits.{mostInvestees, mostBalance}
 use Rattle.plain.specs.PlainBook.{PlainInvestee, PlainPosition, PlainBook, investeeOf, isOpen, isPosted}
 use Rattle.plain.specs.Refused.{refuse, ifOpen, ifInRange, ifBased, ifRead, branchOutOfRange, entryOutOfRange, bondOutsideClosing, noRoomFor, tooMuchLent, belowZero, declined}
-use Rattle.plain.specs.Steps.{Meaning, Step, enter, restate, reduce, post, amend}
+use Rattle.plain.specs.Steps.{Meaning, enter, post, amend}
 
 -- ---- one refusal
 

@@ -1,5 +1,5 @@
 -- Each call is declined with the first refusal that is due.
-use mathlib.Core.Bool.{Bool, true, false, cond, not, _&&_, _||_}
+use mathlib.Core.Bool.{Bool, true, false, cond, not, _&&_}
 use mathlib.Core.List.{List, [], _∷_}
 use mathlib.Core.Logic.{_≢_, _⊎_, inl, inr, ⊎-elim}
 use mathlib.Core.Path.{_≡_, refl, sym, ap, ap₂, subst, _∙_}
@@ -20,11 +20,10 @@ use Rattle.faults.specs.Refusals.{fault}
 use Rattle.faults.specs.declared.Fault.{Fault}
 use Rattle.faults.specs.declared.Refusal.{Refusal}
 use Rattle.faults.specs.declared.Refusal.the-variants.{KindNotCovered, FigureNotGiven, FieldOutOfRange, ReadingBelowZero, AlreadyOpen, InvesteesFull, NotOpen, EntryOutOfRange, BondOutsideClosingMonth, MonthAlreadyPosted, MonthNotPosted, PositionsFull, ExposureTooLarge, BondAboveDenominator}
-use Rattle.rules.specs.Figures.{WithinLimits}
-use Rattle.rules.specs.Investees.{numbersInRange, profile, profiled, profileOf, outOfRange, WithinRanges, Checked}
+use Rattle.rules.specs.Investees.{numbersInRange, profile, profiled, profileOf, outOfRange, WithinRanges}
 use Rattle.rules.specs.Kinds.{kindNumber, kindNumbered, sizeNumbered}
 use Rattle.rules.specs.Months.{months}
-use Rattle.rules.specs.Tables.{Tables, Lawful, BaseInRange}
+use Rattle.rules.specs.Tables.{Tables, BaseInRange}
 use Rattle.rules.specs.declared.figures.Base.{Base}
 use Rattle.rules.specs.declared.investees.InvesteeFields.{InvesteeFields}
 use Rattle.rules.specs.declared.investees.Profile.{Profile}
@@ -35,13 +34,13 @@ use Rattle.rules.proofs.Ranges.{checks-ranges}
 use Rattle.sources.specs.declared.reading.Reading.{Reading}
 use Rattle.plain.specs.Branches.{branchCount}
 use Rattle.plain.specs.Changes.{posted, amended}
-use Rattle.plain.specs.Due.{Case, FirstDue, _due-if_, source's-fault, BelowZero, NoBranch, NoEntry, OfOpen, IsBond, BondPasses, RuleRefuses, cases, RefusedWhenDue}
+use Rattle.plain.specs.Due.{Case, FirstDue, _due-if_, source's-fault, BelowZero, NoBranch, NoEntry, OfOpen, IsBond, BondPasses, RuleRefuses, RefusedWhenDue}
 use Rattle.plain.specs.Exposures.{isBond, exposureTo, denominatorOf}
 use Rattle.plain.specs.Limits.{mostInvestees, mostPositions, mostBalance, mostExposure}
 use Rattle.plain.specs.Parts.{Denominator, atLeast, whole}
 use Rattle.plain.specs.PlainBook.{PlainInvestee, PlainPosition, PlainBook, investeeOf, isOpen, positionOf, isPosted}
-use Rattle.plain.specs.Refused.{refuse, ifInRange, ifBased, ifOpen, ifRead, branchOutOfRange, entryOutOfRange, bondOutsideClosing, noRoomFor, passes, tooMuchLent, belowZero, declined}
-use Rattle.plain.specs.Steps.{Meaning, Step, enter, restate, reduce, post, amend, askPart, askTotal, askSheet, askBookTotal}
+use Rattle.plain.specs.Refused.{refuse, ifInRange, ifBased, ifOpen, ifRead, branchOutOfRange, entryOutOfRange, bondOutsideClosing, noRoomFor, passes, tooMuchLent, belowZero}
+use Rattle.plain.specs.Steps.{Meaning, enter, restate, reduce, post, amend, askPart, askTotal, askSheet, askBookTotal}
 use Rattle.plain.proofs.Profiles.{checked-figures}
 
 -- ---- one place of the order

@@ -1,36 +1,29 @@
 -- Every run keeps every kilogram.
-use mathlib.Core.Bool.{Bool, true, false, cond, not, _||_}
-use mathlib.Core.List.{List, [], _∷_, map}
+use mathlib.Core.Bool.{Bool, true, false, cond, not}
+use mathlib.Core.List.{List, [], _∷_, _++_, map}
 use mathlib.Core.Logic.{_≢_}
-use mathlib.Core.Path.{_≡_, refl, sym, ap, ap₂, subst, _∙_}
-use Prim.Native.Nat.{ℕ, _≤_, _<_}
-use native.Mathlib.Omega.{arith}
+use mathlib.Core.Path.{_≡_, refl, sym, ap₂, subst, _∙_}
+use Prim.Native.Nat.{ℕ}
 use lib.Dec.{eqb, ltb}
-use lib.IntN.{ℤ, pos, _+ℤ_}
+use lib.IntN.{ℤ, _+ℤ_}
 use lib.ListN.{take}
-use Rattle.std.specs.declared.option.Option.{Option}
-use Rattle.std.specs.declared.option.Option.the-variants.{Some, None}
+use Rattle.std.specs.declared.option.Option.the-variants.{Some}
 use Rattle.std.specs.shelf.Lists.{All, kept-by}
-use Rattle.std.proofs.shelf.Elements.{all-weaker, all-map, all-take, all-kept-by}
-use Rattle.std.proofs.shelf.Tests.{eqb-true, le-ltb, or-from, cond-false}
-use Rattle.faults.specs.declared.Fault.{Fault}
+use Rattle.std.proofs.shelf.Elements.{all-weaker, all-map, all-take, all-append, all-kept-by}
+use Rattle.std.proofs.shelf.Tests.{eqb-true, le-ltb, or-from}
 use Rattle.rules.specs.Tables.{Tables, Lawful}
 use Rattle.rules.specs.declared.kinds.Kind.{Kind}
-use Rattle.plain.specs.declared.answers.Answer.{Answer}
-use Rattle.plain.specs.declared.answers.Answer.the-variants.{Declined, Part, Total, Sheet, Book}
-use Rattle.plain.specs.declared.answers.BookTotal.{BookTotal}
 use Rattle.plain.specs.Branches.{Branch, branchCount}
-use Rattle.plain.specs.EveryRun.{measured, kilogramsIn, ProjectsAndRestMakeAll, KeepsEveryKilogram, HoldsAt, EveryRunKeepsEveryKilogram}
-use Rattle.plain.specs.Exposures.{positionsOn, lentBy, lentTo, denominatorOf, Measure, emissions, reductions, apportionment, apportionments}
-use Rattle.plain.specs.Kept.{KeptByEveryRun, KeptUnderRule, PositionInRange}
-use Rattle.plain.specs.Lists.{firstOf, Pairwise}
-use Rattle.plain.specs.Parts.{Lent, Apportionment, part, total, sheet, bookTotal, OncePerBranch, Orderly}
-use Rattle.plain.specs.PlainBook.{PlainInvestee, PlainPosition, PlainBook, empty, idOf, hasId, investeeOf}
-use Rattle.plain.specs.Readings.{both, partOf, totalOf, ofInvestee, sheetOf, isProject, bookTotalOf, gives}
-use Rattle.plain.specs.Refused.{ifOpen, refuse, branchOutOfRange, declined}
-use Rattle.plain.specs.Runs.{unless, after, answer, run}
+use Rattle.plain.specs.EveryRun.{measured, kilogramsIn, ProjectsAndRestMakeAll, KeepsEveryKilogram, AtEachPoint, EveryRunKeepsEveryKilogram}
+use Rattle.plain.specs.Exposures.{positionsOn, lentBy, lentTo, Measure, emissions, reductions, apportionment, apportionments}
+use Rattle.plain.specs.Kept.{KeptByEveryRun, KeptUnderRule}
+use Rattle.plain.specs.Lists.{Pairwise}
+use Rattle.plain.specs.Parts.{part, total, sheet, bookTotal, OncePerBranch, Orderly}
+use Rattle.plain.specs.PlainBook.{PlainInvestee, PlainPosition, PlainBook, empty, idOf, investeeOf}
+use Rattle.plain.specs.Readings.{both, isProject, bookTotalOf}
+use Rattle.plain.specs.Refused.{branchOutOfRange}
+use Rattle.plain.specs.Runs.{after, answer, run}
 use Rattle.plain.specs.Steps.{Step, askPart, askTotal, askSheet, askBookTotal, WithinSourceLimits}
-use Rattle.plain.specs.Sums.{sumOver}
 use Rattle.plain.proofs.Kept.{kept-at-first, kept-by-a-call}
 use Rattle.plain.proofs.Kilograms.{AnsweredAsDefined, kilograms-kept}
 use Rattle.plain.proofs.Lists.{found-by-key}
@@ -126,7 +119,7 @@ kilograms-at t lawful p ok m = record {
 
 -- ---- runs
 
-kept-by-run : (t : Tables) (p : PlainBook) (calls : List Step) → All WithinSourceLimits calls → KeptByEveryRun p → KeptByEveryRun (run t p calls)
+pub kept-by-run : (t : Tables) (p : PlainBook) (calls : List Step) → All WithinSourceLimits calls → KeptByEveryRun p → KeptByEveryRun (run t p calls)
 kept-by-run t p [] limits ok = ok
 kept-by-run t p (c ∷ calls) limits ok = kept-by-run t (after t p c) calls (limits .1) (kept-by-a-call t p c (limits .0) ok)
 
@@ -135,12 +128,16 @@ ruled-by-run t lawful p [] limits kept ok = ok
 ruled-by-run t lawful p (c ∷ calls) limits kept ok =
     ruled-by-run t lawful (after t p c) calls (limits .1) (kept-by-a-call t p c (limits .0) kept) (ruled-by-a-call t lawful p c (limits .0) kept ok)
 
+pub at-each-point : (t : Tables) → Lawful t → (p : PlainBook) → KeptByEveryRun p → (calls : List Step) → All WithinSourceLimits calls → AtEachPoint t p calls
+at-each-point t lawful p ok calls limits k =
+    let kept = kept-by-run t p (take k calls) (all-take WithinSourceLimits k calls limits) ok in
+    record { kept = kept; kilograms = kilograms-at t lawful (run t p (take k calls)) kept }
+
 pub every-run-keeps : EveryRunKeepsEveryKilogram
-every-run-keeps t lawful calls limits k =
-    let few = all-take WithinSourceLimits k calls limits in
-    let kept = kept-by-run t empty (take k calls) few kept-at-first in
-    record {
-      kept = kept;
-      kept-under-rule = ruled-by-run t lawful empty (take k calls) few kept-at-first (ruled-at-first t);
-      kilograms = kilograms-at t lawful (run t empty (take k calls)) kept;
-    }
+every-run-keeps = record {
+  from-the-start = λ t lawful calls limits. at-each-point t lawful empty kept-at-first calls limits;
+  going-on = at-each-point;
+  with-its-history = λ t lawful p calls limits before fair same. at-each-point t lawful empty kept-at-first (before ++ calls) (all-append WithinSourceLimits before calls fair limits);
+  under-its-rule = λ t lawful p reached.
+      subst (KeptUnderRule t) (reached .2) (ruled-by-run t lawful empty (reached .0) (reached .1) kept-at-first (ruled-at-first t));
+}

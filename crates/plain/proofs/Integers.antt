@@ -1,9 +1,8 @@
 -- The laws of whole numbers that lib.IntN lacks, and what a size (`natAbs`) does in sums and products.
 use mathlib.Core.Path.{_≡_, refl, sym, ap, _∙_}
-use Prim.Native.Nat.{ℕ, suc, _+_, _*_, _-_, _≤_, _<_}
+use Prim.Native.Nat.{suc, _+_, _*_, _≤_}
 use native.Mathlib.Omega.{arith}
-use lib.IntN.{ℤ, pos, negsuc, negℤ, natAbs, _+ℤ_, _-ℤ_, _*ℤ_, *ℤ-comm, +ℤ-comm, +ℤ-assoc}
-use lib.Signed.{_≤ℤ_, _<ℤ_}
+use lib.IntN.{ℤ, pos, negsuc, negℤ, natAbs, _+ℤ_, _-ℤ_, _*ℤ_, *ℤ-comm}
 use borrow.Author.Differences.{up, down, ints, same-in, sum-is, product-is, neg-is}
 
 up-mul : (a b : ℤ) → up (a *ℤ b) ≡ up a * up b + down a * down b

@@ -1,12 +1,12 @@
 -- What every run keeps: the empty book has it, and each call keeps it.
-use mathlib.Core.Bool.{Bool, true, false, cond, not, _&&_}
+use mathlib.Core.Bool.{Bool, true, false, cond}
 use mathlib.Core.List.{List, [], _∷_, _++_, map}
-use mathlib.Core.Logic.{_≢_, _⊎_, inl, inr, ⊎-elim}
+use mathlib.Core.Logic.{_≢_, ⊎-elim}
 use mathlib.Core.Path.{_≡_, refl, sym, ap, ap₂, subst, _∙_}
-use Prim.Native.Nat.{ℕ, _+_, _≤_, _<_}
+use Prim.Native.Nat.{ℕ, _≤_, _<_}
 use native.Mathlib.Omega.{arith}
-use lib.Dec.{eqb, ltb, leb}
-use lib.IntN.{ℤ, pos, natAbs}
+use lib.Dec.{eqb, ltb}
+use lib.IntN.{pos}
 use lib.ListN.{length}
 use lib.Signed.{_≤ℤ_, ltZ}
 use Rattle.std.specs.Options.{isSome}
@@ -20,26 +20,24 @@ use Rattle.std.proofs.shelf.Lists.{length-push}
 use Rattle.std.proofs.shelf.Signed.{ints}
 use Rattle.std.proofs.shelf.Tests.{both-ways, cases-eq, eqb-true, eqb-false, ltb-false, leb-false}
 use Rattle.faults.specs.declared.Fault.{Fault}
-use Rattle.rules.specs.Investees.{profileOf}
 use Rattle.rules.specs.Figures as figures
 use Rattle.rules.specs.Tables.{Tables}
-use Rattle.rules.specs.declared.investees.InvesteeFields.{InvesteeFields}
 use Rattle.rules.specs.declared.investees.Profile.{Profile}
 use Rattle.sources.specs.Readings.{WithinLimits, InLimits}
 use Rattle.sources.specs.declared.reading.Reading.{Reading}
 use Rattle.plain.specs.Changes.{opened, restated, reducedBy, readInto, added, withPosition, amended, posted, changed}
-use Rattle.plain.specs.Exposures.{exposureTo, lentTo, lentBy, positionsOn, denominatorOf, isBond}
+use Rattle.plain.specs.Exposures.{exposureTo, lentBy, positionsOn}
 use Rattle.plain.specs.Kept.{InvesteeInRange, PositionInRange, KeptByEveryRun}
 use Rattle.plain.specs.Limits.{mostInvestees, mostExposure}
 use Rattle.plain.specs.Lists.{firstOf, changeFirst, Pairwise}
 use Rattle.plain.specs.Parts.{exposures}
-use Rattle.plain.specs.PlainBook.{PlainInvestee, PlainPosition, PlainBook, empty, withInvestees, withPositions, idOf, hasId, investeeOf, isOpen, isOf, newPosition, withBalance}
-use Rattle.plain.specs.Refused.{declined, tooMuchLent, belowZero, passes}
+use Rattle.plain.specs.PlainBook.{PlainInvestee, PlainPosition, PlainBook, empty, withInvestees, idOf, hasId, investeeOf, isOpen}
+use Rattle.plain.specs.Refused.{declined, tooMuchLent, belowZero}
 use Rattle.plain.specs.Runs.{unless, after}
 use Rattle.plain.specs.Steps.{Meaning, Step, enter, restate, reduce, post, amend, askPart, askTotal, askSheet, askBookTotal, WithinSourceLimits}
-use Rattle.plain.proofs.Accepted.{refuse-none, ifOpen-none, ifRead-none, Opened, opened-none, Entered, posted-none, amended-none}
-use Rattle.plain.proofs.Lists.{first-passes, first-all, none-passes, still-found, found-by-key, found-changed, length-change, all-change, pairwise-change, pairwise-push, all-both}
-use Rattle.plain.proofs.Positions.{Differ, all-with-position, length-with-position, differ-with-position, new-in-range, length-amended, differ-amended, in-range-amended, all-amended, others-amended, others-posted}
+use Rattle.plain.proofs.Accepted.{refuse-none, ifOpen-none, ifRead-none, opened-none, posted-none, amended-none}
+use Rattle.plain.proofs.Lists.{none-passes, still-found, found-by-key, found-changed, length-change, all-change, pairwise-change, pairwise-push, all-both}
+use Rattle.plain.proofs.Positions.{all-with-position, length-with-position, differ-with-position, new-in-range, length-amended, differ-amended, in-range-amended, all-amended, others-amended, others-posted}
 use Rattle.plain.proofs.Profiles.{checked-figures}
 
 pub kept-at-first : KeptByEveryRun empty

@@ -1,9 +1,9 @@
 -- Answers that are worked out as defined gain and lose no kilogram.
 use mathlib.Core.Bool.{cond}
 use mathlib.Core.List.{List, [], _∷_}
-use mathlib.Core.Path.{_≡_, refl, sym, ap, ap₂, _∙_, subst}
+use mathlib.Core.Path.{_≡_, sym, _∙_, subst}
 use Prim.Native.Nat.{ℕ}
-use lib.IntN.{ℤ, natAbs, _+ℤ_}
+use lib.IntN.{ℤ}
 use Rattle.std.specs.shelf.Lists.{All}
 use Rattle.std.proofs.shelf.Elements.{all-weaker}
 use Rattle.std.proofs.shelf.Sums.{sumBy-cons}
@@ -11,7 +11,7 @@ use Rattle.plain.specs.Branches.{Branch, branches}
 use Rattle.plain.specs.Fractions.{sumOfFractions}
 use Rattle.plain.specs.Kilograms.{PartsMakeTheTotal, NoKilogramGainedOrLost}
 use Rattle.plain.specs.Parts.{Apportionment, Orderly, share, allShares, exactSum, countedIn, part, total, sheet, bookTotal}
-use Rattle.plain.specs.Rounding.{PartNearShare, TotalNearExactSum, TotalIsFigureWhen}
+use Rattle.plain.specs.Rounding.{PartNearShare, TotalNearExactSum}
 use Rattle.plain.specs.Sums.{sumOver}
 use Rattle.plain.proofs.Parts.{part-near, part-none, part-uncounted, total-within, total-whole, total-near}
 use Rattle.plain.proofs.Rounding.{no-total-near, totals-near}

@@ -13,3 +13,6 @@ pub mod Kept
 pub mod UnderRule
 pub mod EveryRun
 pub mod Due
+pub mod Exposures
+pub mod Runs
+pub mod Sizes

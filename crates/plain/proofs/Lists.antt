@@ -1,16 +1,16 @@
 -- Finding and changing one element of a list, and lists without two of a kind.
-use mathlib.Core.Bool.{Bool, true, false, cond}
+use mathlib.Core.Bool.{Bool, true, false, cond, not}
 use mathlib.Core.List.{List, [], _∷_, _++_}
 use mathlib.Core.Logic.{_≢_}
-use mathlib.Core.Path.{_≡_, refl, sym, ap, ap₂, subst, _∙_}
-use Prim.Native.Nat.{ℕ, suc, _+_}
+use mathlib.Core.Path.{_≡_, refl, sym, ap, subst, _∙_}
+use Prim.Native.Nat.{ℕ, suc, _+_, _≤_, _<_}
+use native.Mathlib.Numerals.{one-add}
 use native.Mathlib.Omega.{arith}
 use lib.Dec.{eqb}
-use lib.ListN.{length}
+use lib.ListN.{length, getD, set}
 use Rattle.std.specs.Options.{isSome}
-use Rattle.std.specs.declared.option.Option.{Option}
 use Rattle.std.specs.declared.option.Option.the-variants.{Some, None}
-use Rattle.std.specs.shelf.Lists.{All, kept-by}
+use Rattle.std.specs.shelf.Lists.{All, kept-by, leading}
 use Rattle.std.proofs.shelf.Elements.{all-weaker, all-push}
 use Rattle.std.proofs.shelf.Tests.{eq-eqb, ne-eqb, cond-true, cond-false}
 use Rattle.plain.specs.Lists.{firstOf, changeFirst, Pairwise}
@@ -139,3 +139,44 @@ pub pairwise-push : {X : Type 0} (R : X → X → Type 0) (xs : List X) (y : X) 
 unfolding Pairwise
 pairwise-push R [] y ok new = (tt, tt)
 pairwise-push R (x ∷ xs) y ok new = (all-push (R x) xs y (ok .0) (new .0), pairwise-push R xs y (ok .1) (new .1))
+
+pub change-last : {X : Type 0} (test : X → Bool) (change : X → X) (xs : List X) (y : X) → All (λ x. test x ≡ false) xs → test y ≡ true → changeFirst test change (xs ++ y ∷ []) ≡ xs ++ change y ∷ []
+unfolding changeFirst
+change-last test change [] y none here = cond-true (test y) _ _ here
+change-last test change (x ∷ xs) y none here = cond-false (test x) _ _ (none .0) ∙ ap (λ l. x ∷ l) (change-last test change xs y (none .1) here)
+
+-- ---- by places: the first that passes stands after those that do not
+
+module _ {X : Type 0} (test : X → Bool) where
+  -- where the first that passes stands, or how many there are
+  abbrev pub placeOf : List X → ℕ
+  placeOf xs = leading (λ x. not (test x)) xs
+
+  pub first-at : (xs : List X) (d : X) → placeOf xs < length xs → firstOf test xs ≡ Some (getD xs (placeOf xs) d)
+  unfolding firstOf
+  first-at [] d h = absurd (omega arith)
+  first-at (x ∷ xs) d h = by (test x) h (first-at xs d)
+    where
+      by : (t : Bool) → cond (not t) (1 + leading (λ x. not (test x)) xs) 0 < suc (length xs) → (leading (λ x. not (test x)) xs < length xs → firstOf test xs ≡ Some (getD xs (leading (λ x. not (test x)) xs) d))
+          → cond t (Some x) (firstOf test xs) ≡ Some (getD (x ∷ xs) (cond (not t) (1 + leading (λ x. not (test x)) xs) 0) d)
+      by true l rest = refl
+      by false l rest = rw one-add (rest (omega arith))
+
+  pub first-past : (xs : List X) → length xs ≤ placeOf xs → firstOf test xs ≡ None
+  unfolding firstOf
+  first-past [] h = refl
+  first-past (x ∷ xs) h = by (test x) h (first-past xs)
+    where
+      by : (t : Bool) → suc (length xs) ≤ cond (not t) (1 + leading (λ x. not (test x)) xs) 0 → (length xs ≤ leading (λ x. not (test x)) xs → firstOf test xs ≡ None) → cond t (Some x) (firstOf test xs) ≡ None
+      by true l rest = absurd (omega arith)
+      by false l rest = rest (omega arith)
+
+  pub change-at : (change : X → X) (xs : List X) (d : X) → placeOf xs < length xs → changeFirst test change xs ≡ set xs (placeOf xs) (change (getD xs (placeOf xs) d))
+  unfolding changeFirst
+  change-at change [] d h = absurd (omega arith)
+  change-at change (x ∷ xs) d h = by (test x) h (change-at change xs d)
+    where
+      by : (t : Bool) → cond (not t) (1 + leading (λ x. not (test x)) xs) 0 < suc (length xs) → (leading (λ x. not (test x)) xs < length xs → changeFirst test change xs ≡ set xs (leading (λ x. not (test x)) xs) (change (getD xs (leading (λ x. not (test x)) xs) d)))
+          → cond t (change x ∷ xs) (x ∷ changeFirst test change xs) ≡ set (x ∷ xs) (cond (not t) (1 + leading (λ x. not (test x)) xs) 0) (change (getD (x ∷ xs) (cond (not t) (1 + leading (λ x. not (test x)) xs) 0) d))
+      by true l rest = refl
+      by false l rest = rw one-add (ap (λ ys. x ∷ ys) (rest (omega arith)))

@@ -1,26 +1,26 @@
 -- What a post and an amendment leave of the positions.
-use mathlib.Core.Bool.{Bool, true, false, cond, not, _&&_}
-use mathlib.Core.List.{List, [], _∷_, _++_, map}
-use mathlib.Core.Logic.{_≢_, _⊎_, inl, inr, ⊎-elim}
-use mathlib.Core.Path.{_≡_, refl, sym, ap, subst, _∙_}
-use Prim.Native.Nat.{ℕ, zero, suc, _+_, _-_, _≤_, _<_}
+use mathlib.Core.Bool.{true, false, not}
+use mathlib.Core.List.{List, [], _∷_, _++_}
+use mathlib.Core.Logic.{_≢_, ⊎-elim}
+use mathlib.Core.Path.{_≡_, refl, sym, ap, _∙_}
+use Prim.Native.Nat.{ℕ, zero, suc, _-_, _≤_}
 use native.Mathlib.Omega.{arith}
 use lib.Dec.{eqb, leb}
-use lib.ListN.{length, set, replicate, length-set, length-replicate}
+use lib.ListN.{length, replicate, length-set, length-replicate}
 use Rattle.std.specs.Options.{isSome, valueOr}
 use Rattle.std.specs.declared.option.Option.{Option}
 use Rattle.std.specs.declared.option.Option.the-variants.{Some, None}
-use Rattle.std.specs.shelf.Lists.{All, kept-by}
+use Rattle.std.specs.shelf.Lists.{All}
 use Rattle.std.proofs.shelf.Elements.{all-push, all-set, all-weaker, kept-by-append}
 use Rattle.std.proofs.shelf.Lists.{length-push}
-use Rattle.std.proofs.shelf.Tests.{eqb-true, eq-eqb, ne-eqb, and-parts, and-cases, and-from, leb-false, not-from-false, both-ways, cond-true, cond-false, cond-both}
+use Rattle.std.proofs.shelf.Tests.{eqb-true, eq-eqb, ne-eqb, and-parts, and-cases, and-from, leb-false, not-from-false, both-ways, cond-false, cond-both}
 use Rattle.rules.specs.Months.{months}
 use Rattle.plain.specs.Branches.{Branch}
 use Rattle.plain.specs.Changes.{withPosition, amended, posted}
 use Rattle.plain.specs.Exposures.{positionsOn}
 use Rattle.plain.specs.Kept.{PositionInRange}
 use Rattle.plain.specs.Limits.{mostPositions, mostBalance}
-use Rattle.plain.specs.Lists.{firstOf, Pairwise}
+use Rattle.plain.specs.Lists.{Pairwise}
 use Rattle.plain.specs.PlainBook.{PlainPosition, isOf, positionOf, newPosition, withBalance}
 use Rattle.plain.specs.Refused.{noRoomFor}
 use Rattle.plain.proofs.Accepted.{EntryInRange}

@@ -1,13 +1,12 @@
 -- The laws of `rounded`, and all that other proofs use of it.
 use mathlib.Core.Path.{_≡_, refl, sym, ap, _∙_}
 use mathlib.Core.Logic.{_≢_, _⊎_, inl, inr}
-use Prim.Native.Nat.{ℕ, zero, suc, _+_, _*_, _-_, _/_, _%_, _≤_, _<_}
+use Prim.Native.Nat.{ℕ, zero, suc, _+_, _*_, _/_, _≤_, _<_}
 use native.Mathlib.Omega.{arith}
-use native.Mathlib.Nat.{div-add-mod', mod-lt, mul-div-cancel, zero-div, div-le-of-le-mul, div-lt-iff-lt-mul, mul-le-mul-left, mul-lt-mul-of-pos-left, mul-le-mul-right, mul-left-comm, mul-div-mul-left}
-use lib.IntN.{ℤ, pos, negsuc, negℤ, natAbs, _+ℤ_, _-ℤ_, _*ℤ_}
-use lib.Signed.{quotZ}
-use borrow.Author.Differences.{up, down, ints, same-in, sum-is, product-is, neg-is, quot-is}
-use Rattle.plain.proofs.Integers.{mul-add, sub-mul, size-mul}
+use native.Mathlib.Nat.{div-add-mod', mod-lt, mul-div-cancel, div-le-of-le-mul, div-mul-le-self, le-div-iff-mul-le, div-lt-iff-lt-mul, mul-le-mul-left, mul-lt-mul-of-pos-left, mul-le-mul-right}
+use lib.IntN.{ℤ, pos, negsuc, natAbs, _+ℤ_, _-ℤ_, _*ℤ_}
+use borrow.Author.Differences.{up, down, ints, same-in, product-is, quot-is}
+use Rattle.plain.proofs.Integers.{sub-mul}
 use Rattle.plain.specs.Rounding.{rounded, PartNearShare, TotalNearExactSum, TotalIsFigureWhen}
 use Rattle.plain.specs.Fractions.{Fraction, _over_, addFractions}
 use Rattle.plain.proofs.Fractions.{gap-none, gap-add}
@@ -41,6 +40,19 @@ rounded-within F c B p h = bound F (quotient-within (up F) c B h) (quotient-with
     bound (pos f) u d = omega (arith, ints, up-rounded (pos f) c B, down-rounded (pos f) c B)
     bound (negsuc f) u d = omega (arith, ints, up-rounded (negsuc f) c B, down-rounded (negsuc f) c B)
 
+-- nor does what is added on the way
+pub rounded-between : (F : ℤ) (c e B : ℕ) → 0 < B → c + e ≤ B → natAbs (rounded F (c + e) B -ℤ rounded F c B) ≤ natAbs F
+rounded-between F c e B p h = bound F
+  where
+    rises : (n : ℕ) → n * c / B ≤ n * (c + e) / B
+    rises n =
+        let more : c ≤ c + e = omega arith in
+        le-div-iff-mul-le {x = n * c / B} {y = n * (c + e)} p .1 (omega (arith, div-mul-le-self (n * c) B, mul-le-mul-left n more))
+
+    bound : (F : ℤ) → natAbs (rounded F (c + e) B -ℤ rounded F c B) ≤ natAbs F
+    bound (pos f) = omega (arith, ints, up-rounded (pos f) c B, down-rounded (pos f) c B, up-rounded (pos f) (c + e) B, down-rounded (pos f) (c + e) B, rises f, quotient-within f (c + e) B h)
+    bound (negsuc f) = omega (arith, ints, up-rounded (negsuc f) c B, down-rounded (negsuc f) c B, up-rounded (negsuc f) (c + e) B, down-rounded (negsuc f) (c + e) B, rises (suc f), quotient-within (suc f) (c + e) B h)
+
 -- and short of it before the end
 quotient-short : (n c B : ℕ) → 0 < n → c < B → n * c / B < n
 quotient-short n c B p h = div-lt-iff-lt-mul {x = n * c} (omega arith) .1 (mul-lt-mul-of-pos-left h p)
@@ -69,14 +81,6 @@ rounded-step F c a B h = rw (sub-mul (rounded F (c + a) B) (rounded F c B) (pos 
     go : (F : ℤ) → natAbs ((rounded F (c + a) B *ℤ pos B -ℤ rounded F c B *ℤ pos B) -ℤ F *ℤ pos a) < B
     go (pos f) = omega (arith, ints, times-up (pos f) c B h, times-down (pos f) c B h, times-up (pos f) (c + a) B h, times-down (pos f) (c + a) B h)
     go (negsuc f) = omega (arith, ints, times-up (negsuc f) c B h, times-down (negsuc f) c B h, times-up (negsuc f) (c + a) B h, times-down (negsuc f) (c + a) B h)
-
--- exposures and base multiplied by the same number
-pub rounded-scale : (k : ℕ) (F : ℤ) (c B : ℕ) → 0 < k → rounded F (k * c) (k * B) ≡ rounded F c B
-rounded-scale k F c B p = same-in (rounded F (k * c) (k * B)) (rounded F c B)
-    (rw (up-rounded F (k * c) (k * B), down-rounded F (k * c) (k * B), up-rounded F c B, down-rounded F c B) (omega (arith, scale (up F), scale (down F))))
-  where
-    scale : (n : ℕ) → n * (k * c) / (k * B) ≡ n * c / B
-    scale n = ap (λ m. m / (k * B)) (mul-left-comm n k c) ∙ mul-div-mul-left (n * c) B p
 
 -- ---- what is promised of the error
 

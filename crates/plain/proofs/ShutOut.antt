@@ -1,11 +1,9 @@
 -- Each of the simpler answers breaks the relation at a named place.
-use mathlib.Core.Bool.{true}
 use mathlib.Core.Logic.{_≢_}
 use mathlib.Core.Path.{_≡_, refl, sym, ap, subst, _∙_}
-use Prim.Native.Nat.{ℕ, _≤_, _<_}
 use native.Mathlib.Omega.{arith}
 use lib.Dec.{lit≤}
-use lib.IntN.{ℤ, pos, natAbs}
+use lib.IntN.{pos, natAbs}
 use borrow.Author.Differences.{ints}
 use Rattle.plain.specs.Branches.{Branch, branches}
 use Rattle.plain.specs.Parts.{exposures, exposureAt, share}

@@ -1,9 +1,8 @@
 -- What every run keeps under its rule: bases, amounts above zero, and bonds within their denominators.
-use mathlib.Core.Bool.{Bool, true, false, _&&_}
+use mathlib.Core.Bool.{true, false, _&&_}
 use mathlib.Core.List.{List, [], _∷_, _++_, map}
-use mathlib.Core.Logic.{_≢_}
-use mathlib.Core.Path.{_≡_, refl, sym, ap, ap₂, subst, _∙_}
-use Prim.Native.Nat.{ℕ, _≤_, _<_}
+use mathlib.Core.Path.{_≡_, refl, sym, ap, ap₂, subst}
+use Prim.Native.Nat.{ℕ}
 use native.Mathlib.Omega.{arith}
 use lib.Dec.{ltb}
 use Rattle.std.specs.Results.{isOk}
@@ -11,7 +10,6 @@ use Rattle.std.specs.declared.option.Option.{Option}
 use Rattle.std.specs.declared.option.Option.the-variants.{Some, None}
 use Rattle.std.specs.declared.result.Result.{Result}
 use Rattle.std.specs.declared.result.Result.the-variants.{Ok, Err}
-use Rattle.std.specs.shelf.Lists.{All}
 use Rattle.std.proofs.shelf.Elements.{all-push}
 use Rattle.std.proofs.shelf.Tests.{le-ltb, and-right}
 use Rattle.faults.specs.declared.Fault.{Fault}
@@ -28,7 +26,7 @@ use Rattle.plain.specs.Kept.{KeptByEveryRun, KeptUnderRule}
 use Rattle.plain.specs.Limits.{mostExposure}
 use Rattle.plain.specs.Lists.{changeFirst}
 use Rattle.plain.specs.Parts.{Denominator, atLeast, whole, AboveZero, exposures}
-use Rattle.plain.specs.PlainBook.{PlainInvestee, PlainPosition, PlainBook, empty, withInvestees, idOf, hasId, isOpen}
+use Rattle.plain.specs.PlainBook.{PlainInvestee, PlainPosition, PlainBook, empty, withInvestees, hasId, isOpen}
 use Rattle.plain.specs.Refused.{declined, tooMuchLent, passes}
 use Rattle.plain.specs.Runs.{unless, after}
 use Rattle.plain.specs.Steps.{Meaning, Step, enter, restate, reduce, post, amend, askPart, askTotal, askSheet, askBookTotal, WithinSourceLimits}

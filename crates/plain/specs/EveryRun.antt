@@ -1,5 +1,5 @@
 -- That no kilogram is gained or lost by any run of any book, under any rule and with any sources.
-use mathlib.Core.List.{List}
+use mathlib.Core.List.{List, _++_}
 use mathlib.Core.Path.{_≡_}
 use Prim.Native.Nat.{ℕ}
 use lib.IntN.{ℤ, pos, _+ℤ_}
@@ -44,13 +44,25 @@ pub record KeepsEveryKilogram (t : Tables) (p : PlainBook) (m : Measure) (ask : 
       (kilogramsIn m (ask askBookTotal))
   pub projects-and-rest-make-all : (k : BookTotal) → ask askBookTotal ≡ Book k → ProjectsAndRestMakeAll m k
 
--- of the plain book that a run has come to
+-- what holds of a plain book that a run has come to, under the tables t
 pub record HoldsAt (t : Tables) (p : PlainBook) : Type 0 where
   pub kept : KeptByEveryRun p
-  pub kept-under-rule : KeptUnderRule t p
   pub kilograms : (m : Measure) → KeepsEveryKilogram t p m (answer t p)
 
--- at each point of every run: before its first call, and after each of its calls
-abbrev pub EveryRunKeepsEveryKilogram : Type 0
-EveryRunKeepsEveryKilogram =
-    (t : Tables) → Lawful t → (calls : List Step) → All WithinSourceLimits calls → (k : ℕ) → HoldsAt t (run t empty (take k calls))
+-- at each point of a run from p: before its first call, and after each of its calls
+abbrev pub AtEachPoint : Tables → PlainBook → List Step → Type 0
+AtEachPoint t p calls = (k : ℕ) → HoldsAt t (run t p (take k calls))
+
+-- at each point of any run that has come to p, and of the calls that follow
+abbrev pub AtEachPointFromTheStart : Tables → PlainBook → List Step → Type 0
+AtEachPointFromTheStart t p calls = (before : List Step) → All WithinSourceLimits before → run t empty before ≡ p → AtEachPoint t empty (before ++ calls)
+
+-- some run has come to p
+abbrev pub ReachedByARun : Tables → PlainBook → Type 0
+ReachedByARun t p = (calls : List Step) × All WithinSourceLimits calls × (run t empty calls ≡ p)
+
+pub record EveryRunKeepsEveryKilogram : Type 0 where
+  pub from-the-start : (t : Tables) → Lawful t → (calls : List Step) → All WithinSourceLimits calls → AtEachPoint t empty calls
+  pub going-on : (t : Tables) → Lawful t → (p : PlainBook) → KeptByEveryRun p → (calls : List Step) → All WithinSourceLimits calls → AtEachPoint t p calls
+  pub with-its-history : (t : Tables) → Lawful t → (p : PlainBook) (calls : List Step) → All WithinSourceLimits calls → AtEachPointFromTheStart t p calls
+  pub under-its-rule : (t : Tables) → Lawful t → (p : PlainBook) → ReachedByARun t p → KeptUnderRule t p

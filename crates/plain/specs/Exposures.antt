@@ -2,10 +2,10 @@
 --   exposure          month balances added up over the year, an unposted month as 0
 --   closing balance   that of the last month of the year
 --   reason            why the rule leaves the investee out; 0 where it is counted
-use mathlib.Core.Bool.{Bool, true, false, cond, _&&_}
+use mathlib.Core.Bool.{Bool, true, false, cond}
 use mathlib.Core.List.{List, map}
 use Prim.Native.Nat.{ℕ, _*_}
-use lib.Dec.{eqb, ltb}
+use lib.Dec.{eqb}
 use lib.IntN.{ℤ}
 use Rattle.std.specs.Options.{valueOr}
 use Rattle.std.specs.declared.result.Result.{Result}

@@ -1,9 +1,8 @@
 -- What every run keeps of a plain book, whatever is called, and what it keeps of it under its rule.
 use mathlib.Core.Bool.{true, false, _&&_}
-use mathlib.Core.List.{List}
 use mathlib.Core.Logic.{_≢_}
 use mathlib.Core.Path.{_≡_}
-use Prim.Native.Nat.{ℕ, _≤_}
+use Prim.Native.Nat.{_≤_}
 use lib.IntN.{pos, natAbs}
 use lib.ListN.{length}
 use lib.Signed.{_≤ℤ_}

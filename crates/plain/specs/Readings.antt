@@ -3,7 +3,7 @@ use mathlib.Core.Bool.{Bool, true, false, cond, not, _&&_}
 use mathlib.Core.List.{List, map}
 use Prim.Native.Nat.{ℕ, _*_, _/_}
 use lib.Dec.{eqb}
-use lib.IntN.{ℤ, pos}
+use lib.IntN.{ℤ}
 use lib.ListN.{length}
 use Rattle.std.specs.declared.option.Option.{Option}
 use Rattle.std.specs.declared.option.Option.the-variants.{Some, None}
@@ -20,7 +20,7 @@ use Rattle.plain.specs.declared.answers.Kilograms.{Kilograms}
 use Rattle.plain.specs.declared.answers.Subtotal.{Subtotal}
 use Rattle.plain.specs.Exposures.{positionsOn, exposureTo, reasonOf, isCounted, Measure, emissions, reductions, apportionment, apportionments}
 use Rattle.plain.specs.Parts.{part, total, sheet, bookTotal}
-use Rattle.plain.specs.PlainBook.{PlainInvestee, PlainPosition, PlainBook, idOf, investeeOf}
+use Rattle.plain.specs.PlainBook.{PlainInvestee, PlainBook, idOf, investeeOf}
 use Rattle.plain.specs.Steps.{Step, enter, restate, reduce, post, amend, askPart, askTotal, askSheet, askBookTotal}
 
 abbrev pub both : (Measure → ℤ) → Kilograms

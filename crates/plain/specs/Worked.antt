@@ -1,5 +1,5 @@
 -- Worked cases: small books under the two guides, and what they answer.
-use mathlib.Core.List.{List, [], _∷_, _++_, map}
+use mathlib.Core.List.{List, [], _∷_, map}
 use mathlib.Core.Path.{_≡_}
 use Prim.Native.Nat.{ℕ, suc}
 use lib.IntN.{ℤ, pos, negℤ}
@@ -11,7 +11,6 @@ use Rattle.faults.specs.declared.Refusal.the-variants.{BondAboveDenominator}
 use Rattle.grading.specs.Mean.{meanOf}
 use Rattle.rules.specs.National.{nationalTables}
 use Rattle.rules.specs.Pudong.{pudongTables}
-use Rattle.rules.specs.Tables.{Tables}
 use Rattle.rules.specs.declared.figures.Figures.{Figures}
 use Rattle.rules.specs.declared.investees.InvesteeFields.{InvesteeFields}
 use Rattle.sources.specs.Bottoms.{physicalMeaning}

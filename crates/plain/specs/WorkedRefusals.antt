@@ -4,13 +4,12 @@ use mathlib.Core.Path.{_≡_}
 use Prim.Native.Nat.{ℕ}
 use lib.IntN.{pos, negsuc}
 use lib.ListN.{replicate}
-use Rattle.std.specs.declared.result.Result.the-variants.{Ok, Err}
+use Rattle.std.specs.declared.result.Result.the-variants.{Err}
 use Rattle.faults.specs.Refusals.{fault, numberOf}
 use Rattle.faults.specs.declared.Refusal.the-variants.{Custom}
 use Rattle.rules.specs.National.{nationalTables}
 use Rattle.rules.specs.Pudong.{pudongTables}
 use Rattle.rules.specs.Tables.{Tables}
-use Rattle.rules.specs.declared.investees.InvesteeFields.{InvesteeFields}
 use Rattle.rules.specs.declared.investees.Profile.{Profile}
 use Rattle.rules.specs.declared.kinds.Kind.the-variants.{Project}
 use Rattle.rules.specs.declared.kinds.Size.the-variants.{Large}
