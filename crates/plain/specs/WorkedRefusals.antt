@@ -32,8 +32,9 @@ numberIn (Total k) = 0
 numberIn (Sheet k) = 0
 numberIn (Book k) = 0
 
-abbrev pub numbers : Tables → PlainBook → List Step → List ℕ
-numbers t p calls = map (λ c. numberIn (answer t p c)) calls
+-- each of these calls, made by itself, is declined with the number beside it, or accepted where that is 0
+abbrev pub DeclinedWith : Tables → PlainBook → List (Step × ℕ) → Type 0
+DeclinedWith t p calls = map (λ c. numberIn (answer t p (c .0))) calls ≡ map (λ c. c .1) calls
 
 -- investee 7 is a general loan, to which branches 1 and 2 have lent in month 1; there is no investee 9
 abbrev pub loan : PlainBook
@@ -57,23 +58,84 @@ opening id kind days revenue meaning = enter (record { id = id; kind = kind; sec
 abbrev pub fails : Meaning
 fails = Err (fault (Custom 77) 3 12)
 
+-- ---- the calls with their numbers; each row with a refusal has others that would apply later
+
+abbrev pub openings : List (Step × ℕ)
+openings =
+    -- a field out of range, before an id that is open
+    (opening 7 5 367 10000 fails, 12)
+    -- an id that is open, before a kind that the rule does not cover
+    ∷ (opening 7 2 200 0 fails, 14)
+    -- the rule's refusals before the source's fault, and that with a number of its own
+    ∷ (opening 9 2 200 0 fails, 10)
+    ∷ (opening 9 5 200 0 fails, 11)
+    ∷ (opening 9 5 200 10000 fails, 77)
+    ∷ (opening 9 5 200 10000 (reads (negsuc 0)), 13)
+    ∷ (opening 9 5 200 10000 (reads (pos 0)), 0)
+    ∷ []
+
+-- an open id before a full book, and that before the rule
+abbrev pub openingsOfAFullBook : List (Step × ℕ)
+openingsOfAFullBook = (opening 7 2 200 0 fails, 14) ∷ (opening 9 2 200 0 fails, 15) ∷ []
+
+-- a reduction may be below zero, and a reading of emissions may not
+abbrev pub restatements : List (Step × ℕ)
+restatements =
+    (restate 9 fails, 16)
+    ∷ (restate 7 fails, 77)
+    ∷ (restate 7 (reads (negsuc 0)), 13)
+    ∷ (reduce 9 fails, 16)
+    ∷ (reduce 7 fails, 77)
+    ∷ (reduce 7 (reads (negsuc 0)), 0)
+    ∷ []
+
+abbrev pub postsOnALoan : List (Step × ℕ)
+postsOnALoan =
+    -- branch, month and balance, before an id that is not open
+    (post 41 9 1 0, 20)
+    ∷ (post 1 9 13 0, 20)
+    ∷ (post 1 9 1 9000001, 20)
+    ∷ (post 1 9 1 0, 16)
+    -- a month that has a balance, before the exposure
+    ∷ (post 1 7 1 9000000, 22)
+    ∷ (post 1 7 2 9000000, 25)
+    ∷ (post 1 7 2 0, 0)
+    ∷ []
+
+-- no room, before the exposure; and not for a branch that has a position
+abbrev pub postsInAFullBook : List (Step × ℕ)
+postsInAFullBook = (post 3 7 1 9000000, 24) ∷ (post 1 7 2 9000000, 25) ∷ (post 1 7 2 0, 0) ∷ []
+
+-- the month, before the exposure, and that before the denominator; a bond's balance is counted twelve times
+abbrev pub postsOnABond : List (Step × ℕ)
+postsOnABond = (post 1 7 11 900000, 21) ∷ (post 1 7 12 900000, 25) ∷ (post 1 7 12 1001, 26) ∷ (post 1 7 12 1000, 0) ∷ []
+
+-- a month without a balance, before the exposure
+abbrev pub amendments : List (Step × ℕ)
+amendments =
+    (amend 0 9 1 0, 20)
+    ∷ (amend 1 9 1 0, 16)
+    ∷ (amend 3 7 1 9000000, 23)
+    ∷ (amend 1 7 2 9000000, 23)
+    ∷ (amend 1 7 1 9000000, 25)
+    ∷ (amend 1 7 1 8999999, 0)
+    ∷ []
+
+abbrev pub amendmentsOfABond : List (Step × ℕ)
+amendmentsOfABond = (amend 1 7 11 900000, 21) ∷ (amend 1 7 12 900000, 23) ∷ []
+
+abbrev pub questions : List (Step × ℕ)
+questions = (askPart 9 41, 20) ∷ (askPart 9 40, 16) ∷ (askPart 7 40, 0) ∷ (askTotal 9, 16) ∷ (askTotal 7, 0) ∷ (askSheet 41, 20) ∷ (askSheet 40, 0) ∷ []
+
 pub record WorkedRefusals : Type 0 where
-  -- 12 before 14, 14 before 15, 15 before the rule's 10, 10 and 11 before the source's fault, that fault as it is, and 13
-  pub openings : numbers nationalTables loan (opening 7 5 367 10000 fails ∷ opening 7 2 200 0 fails ∷ opening 9 2 200 0 fails ∷ opening 9 5 200 0 fails ∷ opening 9 5 200 10000 fails ∷ opening 9 5 200 10000 (reads (negsuc 0)) ∷ opening 9 5 200 10000 (reads (pos 0)) ∷ [])
-      ≡ 12 ∷ 14 ∷ 10 ∷ 11 ∷ 77 ∷ 13 ∷ 0 ∷ []
-  pub openings-of-a-full-book : numbers nationalTables fullOfInvestees (opening 7 2 200 0 fails ∷ opening 9 2 200 0 fails ∷ []) ≡ 14 ∷ 15 ∷ []
+  pub when-opening : DeclinedWith nationalTables loan openings
+  pub when-opening-in-a-full-book : DeclinedWith nationalTables fullOfInvestees openingsOfAFullBook
+  pub when-restating : DeclinedWith nationalTables loan restatements
+  pub when-posting : DeclinedWith nationalTables loan postsOnALoan
+  pub when-posting-in-a-full-book : DeclinedWith nationalTables fullOfPositions postsInAFullBook
+  pub when-posting-on-a-bond : DeclinedWith pudongTables bond postsOnABond
+  pub when-amending : DeclinedWith nationalTables loan amendments
+  pub when-amending-a-bond : DeclinedWith pudongTables bond amendmentsOfABond
+  pub when-asking : DeclinedWith nationalTables loan questions
+  -- a fault that a caller's own source means is passed on with its place and its source
   pub a-source's-fault-unchanged : answer nationalTables loan (restate 7 fails) ≡ Declined (fault (Custom 77) 3 12)
-  -- 16 before the source's fault; a restatement below zero is declined, and a reduction is not
-  pub restatements : numbers nationalTables loan (restate 9 fails ∷ restate 7 fails ∷ restate 7 (reads (negsuc 0)) ∷ reduce 9 fails ∷ reduce 7 fails ∷ reduce 7 (reads (negsuc 0)) ∷ []) ≡ 16 ∷ 77 ∷ 13 ∷ 16 ∷ 77 ∷ 0 ∷ []
-  -- branch, month and balance out of range before 16, and 22 before 25
-  pub posts-on-a-loan : numbers nationalTables loan (post 41 9 1 0 ∷ post 1 9 13 0 ∷ post 1 9 1 9000001 ∷ post 1 9 1 0 ∷ post 1 7 1 9000000 ∷ post 1 7 2 9000000 ∷ post 1 7 2 0 ∷ []) ≡ 20 ∷ 20 ∷ 20 ∷ 16 ∷ 22 ∷ 25 ∷ 0 ∷ []
-  -- 24 before 25, and not for a branch that has a position
-  pub posts-in-a-full-book : numbers nationalTables fullOfPositions (post 3 7 1 9000000 ∷ post 1 7 2 9000000 ∷ post 1 7 2 0 ∷ []) ≡ 24 ∷ 25 ∷ 0 ∷ []
-  -- 21 before 25, and 25 before 26; a bond's balance is counted twelve times
-  pub posts-on-a-bond : numbers pudongTables bond (post 1 7 11 900000 ∷ post 1 7 12 900000 ∷ post 1 7 12 1001 ∷ post 1 7 12 1000 ∷ []) ≡ 21 ∷ 25 ∷ 26 ∷ 0 ∷ []
-  -- 23 before 25
-  pub amendments : numbers nationalTables loan (amend 0 9 1 0 ∷ amend 1 9 1 0 ∷ amend 3 7 1 9000000 ∷ amend 1 7 2 9000000 ∷ amend 1 7 1 9000000 ∷ amend 1 7 1 8999999 ∷ []) ≡ 20 ∷ 16 ∷ 23 ∷ 23 ∷ 25 ∷ 0 ∷ []
-  -- 21 before 23
-  pub amendments-of-a-bond : numbers pudongTables bond (amend 1 7 11 900000 ∷ amend 1 7 12 900000 ∷ []) ≡ 21 ∷ 23 ∷ []
-  -- 20 before 16
-  pub readings : numbers nationalTables loan (askPart 9 41 ∷ askPart 9 40 ∷ askPart 7 40 ∷ askTotal 9 ∷ askTotal 7 ∷ askSheet 41 ∷ askSheet 40 ∷ []) ≡ 20 ∷ 16 ∷ 0 ∷ 16 ∷ 0 ∷ 20 ∷ 0 ∷ []

@@ -8,14 +8,14 @@ use Rattle.plain.proofs.worked_refusals.Needs as need
 pub returns : need.returns
 unfolding rounded exposures exposureAt exposureBefore sumOver downFrom firstOf changeFirst
 returns c = record {
-  openings = refl;
-  openings-of-a-full-book = refl;
+  when-opening = refl;
+  when-opening-in-a-full-book = refl;
+  when-restating = refl;
+  when-posting = refl;
+  when-posting-in-a-full-book = refl;
+  when-posting-on-a-bond = refl;
+  when-amending = refl;
+  when-amending-a-bond = refl;
+  when-asking = refl;
   a-source's-fault-unchanged = refl;
-  restatements = refl;
-  posts-on-a-loan = refl;
-  posts-in-a-full-book = refl;
-  posts-on-a-bond = refl;
-  amendments = refl;
-  amendments-of-a-bond = refl;
-  readings = refl;
 }
