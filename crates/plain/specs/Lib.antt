@@ -19,3 +19,4 @@ pub mod EveryRun
 pub mod Worked
 pub mod WorkedRefusals
 pub mod Due
+pub mod WorkedYear

@@ -6,6 +6,7 @@ ghost use Rattle.plain.specs.Kilograms.{TotalIsRoundedOnce};
 ghost use Rattle.plain.specs.ShutOut.{SimplerAnswersShutOut};
 ghost use Rattle.plain.specs.Worked.{WorkedCases};
 ghost use Rattle.plain.specs.WorkedRefusals.{WorkedRefusals};
+ghost use Rattle.plain.specs.WorkedYear.{WorkedYear};
 
 pub mod answers;
 pub mod limits;
@@ -43,4 +44,9 @@ pub fn worked_cases()
 // Where several refusals apply to a call, the one that is due comes first.
 pub fn worked_refusals()
     ensures { λ _. ⌜ WorkedRefusals ⌝ }
+{}
+
+// A year of all kinds of calls, with every figure of its book total.
+pub fn worked_year()
+    ensures { λ _. ⌜ WorkedYear ⌝ }
 {}
