@@ -21,7 +21,7 @@ use Rattle.rules.specs.declared.investees.Profile.{Profile}
 use Rattle.rules.specs.Kinds.{kindNumber, kindNumbered, sizeNumber, sizeNumbered}
 use Rattle.rules.specs.declared.figures.Figures.{Figures}
 use Rattle.rules.specs.Figures.{mostFigure, WithinLimits, withinLimits}
-use Rattle.rules.specs.Investees.{numbersInRange, profile, profiled, profileOf, outOfRange, WithinRanges, SameNumbers, Checked}
+use Rattle.rules.specs.Investees.{lastId, lastSector, mostDays, numbersInRange, profile, profiled, profileOf, outOfRange, WithinRanges, SameNumbers, Checked}
 
 kind-from-number : (n : ℕ) → 1 ≤ n → n ≤ 6 → (k : Kind) × (kindNumbered n ≡ Some k) × (kindNumber k ≡ n)
 kind-from-number zero low high = absurd (omega arith)
@@ -84,9 +84,9 @@ limits-hold f e =
 numbers-within : (f : InvesteeFields) → numbersInRange f ≡ true → 1 ≤ f .kind → f .kind ≤ 6 → 1 ≤ f .size → f .size ≤ 5 → WithinRanges f
 numbers-within f e k l s t =
     let id = and-parts (leb 1 (f .id)) _ e in
-    let top = and-parts (leb (f .id) 4294967295) _ (id .1) in
-    let sector = and-parts (leb (f .sector) 8) _ (top .1) in
-    let days = and-parts (leb (f .days) 366) _ (sector .1) in
+    let top = and-parts (leb (f .id) lastId) _ (id .1) in
+    let sector = and-parts (leb (f .sector) lastSector) _ (top .1) in
+    let days = and-parts (leb (f .days) mostDays) _ (sector .1) in
     record {
       id-from = leb-true _ _ (id .0);
       id-to = leb-true _ _ (top .0);

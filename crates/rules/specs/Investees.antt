@@ -19,10 +19,22 @@ use Rattle.rules.specs.declared.investees.Profile.{Profile}
 use Rattle.rules.specs.Kinds.{kindNumber, kindNumbered, sizeNumber, sizeNumbered}
 use Rattle.rules.specs.Figures.{WithinLimits, withinLimits}
 
+-- an id is at least 1 and at most this
+abbrev pub lastId : ℕ
+lastId = 4294967295
+
+-- sectors 1 to 8 are the heavy-emitting ones, and 0 stands for every other
+abbrev pub lastSector : ℕ
+lastSector = 8
+
+-- the most days that a year can have
+abbrev pub mostDays : ℕ
+mostDays = 366
+
 -- the fields that are no kind and no size are within their ranges
 abbrev pub numbersInRange : InvesteeFields → Bool
 numbersInRange f =
-    leb 1 (f .id) && (leb (f .id) 4294967295 && (leb (f .sector) 8 && (leb (f .days) 366 && withinLimits (f .figures))))
+    leb 1 (f .id) && (leb (f .id) lastId && (leb (f .sector) lastSector && (leb (f .days) mostDays && withinLimits (f .figures))))
 
 abbrev pub profile : InvesteeFields → Kind → Size → Profile
 profile f kind size = record { id = f .id; kind = kind; sector = f .sector; size = size; days = f .days; figures = f .figures }
@@ -43,13 +55,13 @@ profileOf f = profiled f (kindNumbered (f .kind)) (sizeNumbered (f .size))
 -- every field is within its range
 pub record WithinRanges (f : InvesteeFields) : Type 0 where
   pub id-from : 1 ≤ f .id
-  pub id-to : f .id ≤ 4294967295
+  pub id-to : f .id ≤ lastId
   pub kind-from : 1 ≤ f .kind
   pub kind-to : f .kind ≤ 6
-  pub sector-to : f .sector ≤ 8
+  pub sector-to : f .sector ≤ lastSector
   pub size-from : 1 ≤ f .size
   pub size-to : f .size ≤ 5
-  pub days-to : f .days ≤ 366
+  pub days-to : f .days ≤ mostDays
   pub figures-to : WithinLimits (f .figures)
 
 -- a profile has the fields' own numbers

@@ -1,4 +1,4 @@
--- The guide for financial institutions in Pudong: every kind.
+-- The guide for banks in Pudong: every kind.
 use mathlib.Core.Path.{_≡_}
 use mathlib.Core.Logic.{_⊎_, _≢_}
 use mathlib.Core.Bool.{true, false}
@@ -58,7 +58,7 @@ PudongTries kind repaid = kind ≢ Bond
 abbrev pub PudongApplies : Kind → Size → ℕ → ℕ → ℕ → Reason → Type 0
 PudongApplies kind size days exposure closing reason = PudongTries kind reason × Holds size days exposure closing reason
 
--- a loan of any kind but a general one is left out
+-- what leaves out a loan of any kind
 abbrev pub LoanLeftOut : Size → ℕ → ℕ → Type 0
 LoanLeftOut size days closing = (days < leastDays) ⊎ ((smallSize size ≡ true) ⊎ (closing ≡ 0))
 

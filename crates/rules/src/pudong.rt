@@ -1,4 +1,4 @@
-// The guide for financial institutions in Pudong.
+// The guide for banks in Pudong.
 ghost use mathlib.Core.Path.{_≡_};
 ghost use mathlib.Core.Bool.{false, not};
 ghost use lib.Dec.{eqb};
