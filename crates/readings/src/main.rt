@@ -45,31 +45,17 @@ fn bill(rt: &LibcRuntime, label: &str, terms: &[Activity]) -> io::Result<()> {
     show(rt, label, &Physical { terms })
 }
 
+fn term(row: u64, quantity: u64) -> Activity {
+    Activity { row, quantity }
+}
+
 fn bills(rt: &LibcRuntime) -> io::Result<()> {
-    let power = Activity {
-        row: 6,
-        quantity: 1_000,
-    };
-    let diesel = Activity {
-        row: 3,
-        quantity: 1,
-    };
-    let most = Activity {
-        row: 6,
-        quantity: 10_000_000_000,
-    };
-    let more = Activity {
-        row: 6,
-        quantity: 10_000_000_001,
-    };
-    let coal = Activity {
-        row: 1,
-        quantity: 10_000_000_000,
-    };
-    let no_row = Activity {
-        row: 7,
-        quantity: 1,
-    };
+    let power = term(6, 1_000);
+    let diesel = term(3, 1);
+    let most = term(6, 10_000_000_000);
+    let more = term(6, 10_000_000_001);
+    let coal = term(1, 10_000_000_000);
+    let no_row = term(7, 1);
     let mut last_bad = [diesel; 16];
     last_bad[15] = no_row;
     bill(
@@ -207,10 +193,7 @@ fn offsets(rt: &LibcRuntime) -> io::Result<()> {
 
 // Sources of two kinds in one list, the second with its fault three layers down.
 fn mixed(rt: &LibcRuntime) -> io::Result<()> {
-    let bill = [Activity {
-        row: 9,
-        quantity: 1,
-    }];
+    let bill = [term(9, 1)];
     let estimate = Estimate {
         figures: EstimateFigures {
             report_output: 1,

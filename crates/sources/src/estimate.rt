@@ -27,6 +27,23 @@ pub struct EstimateFigures {
     pub base_kilograms: u64,
 }
 
+fn scaled(f: EstimateFigures) -> u64
+    requires { ⌜ estimateOutOfRange f ≡ false ⌝ }
+    ensures { λ r. ⌜ r ≡ expected f ⌝ }
+{
+    f.report_output * f.base_kilograms / f.base_output
+}
+
+// The same, with how it is rounded and how large it can be.
+fn scaled_within(f: EstimateFigures) -> u64
+    requires { ⌜ estimateOutOfRange f ≡ false ⌝ }
+    ensures value { λ r. ⌜ r ≡ expected f ⌝ }
+    ensures rounded { λ r. ⌜ TowardZero (f .«report_output» * f .«base_kilograms») (f .«base_output») r ⌝ }
+    ensures bound { λ r. ⌜ r ≤ mostPeriodOutput * mostKilograms ⌝ }
+{
+    scaled(f)
+}
+
 impl EstimateFigures {
     // The number of the layer.
     pub const NUMBER: u32 = 4;
@@ -41,7 +58,7 @@ impl EstimateFigures {
         if self.out_of_range() {
             return None;
         }
-        Some(self.scaled())
+        Some(scaled_within(self))
     }
 
     fn out_of_range(self) -> bool
@@ -51,13 +68,6 @@ impl EstimateFigures {
             || self.base_output == 0
             || self.base_output > MOST_PERIOD_OUTPUT
             || self.base_kilograms > MOST_KILOGRAMS
-    }
-
-    fn scaled(self) -> u64
-        requires { ⌜ estimateOutOfRange self ≡ false ⌝ }
-        ensures { λ r. ⌜ r ≡ expected self ⌝ }
-    {
-        self.report_output * self.base_kilograms / self.base_output
     }
 }
 
