@@ -1,3 +1,4 @@
 pub mod ByAssets
 pub mod Nobody
 pub mod FromDays
+pub mod Stricter

@@ -2,5 +2,6 @@
 pub mod by_assets;
 pub mod from_days;
 pub mod nobody;
+pub mod stricter;
 #[cfg(test)]
 mod tests;

@@ -5,6 +5,8 @@ use crate::from_days::FromDays;
 use crate::from_days::FromDaysRule;
 use crate::nobody::Nobody;
 use crate::nobody::NobodyRule;
+use crate::stricter::Stricter;
+use crate::stricter::StricterRule;
 use faults::Refusal;
 use faults::RefusalDebug;
 use faults::RefusalPartialEq;
@@ -59,4 +61,20 @@ fn nobody_and_from_days() -> Result<(), Fail> {
         attributed(&FromDays { least: &least }, vehicle(700), 0, 0).reason,
         0,
     )
+}
+
+#[test]
+fn stricter_than_another() -> Result<(), Fail> {
+    let under = Stricter {
+        rule: &ByAssets,
+        least: 41,
+    };
+    let answer = attributed(&under, vehicle(700), 0, 0);
+    check_eq(answer.base, Ok(Base::Amount(700)))?;
+    check_eq(answer.reason, 5)?;
+    let over = Stricter {
+        rule: &Nobody,
+        least: 40,
+    };
+    check_eq(attributed(&over, vehicle(700), 0, 0).reason, 9)
 }
