@@ -16,3 +16,4 @@ pub mod Due
 pub mod Exposures
 pub mod Runs
 pub mod Sizes
+pub mod OnOne

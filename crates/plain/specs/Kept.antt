@@ -19,6 +19,7 @@ use Rattle.plain.specs.Limits.{mostInvestees, mostPositions, mostBalance, most
 use Rattle.plain.specs.Lists.{Pairwise}
 use Rattle.plain.specs.Parts.{AboveZero}
 use Rattle.plain.specs.PlainBook.{PlainInvestee, PlainPosition, PlainBook, empty, idOf, isOpen}
+use Rattle.plain.specs.Readings.{positionsOnAll}
 use Rattle.plain.specs.Refused.{passes}
 use Rattle.plain.specs.Runs.{after}
 use Rattle.plain.specs.Steps.{Step, WithinSourceLimits}
@@ -62,3 +63,5 @@ pub record KeptByEachCall : Type 0 where
   pub by-a-call : (t : Tables) (p : PlainBook) (c : Step) → WithinSourceLimits c → KeptByEveryRun p → KeptByEveryRun (after t p c)
   pub at-first-under-rule : (t : Tables) → KeptUnderRule t empty
   pub by-a-call-under-rule : (t : Tables) → Lawful t → (p : PlainBook) (c : Step) → WithinSourceLimits c → KeptByEveryRun p → KeptUnderRule t p → KeptUnderRule t (after t p c)
+  -- so each position is on one investee, and a share of the positions on all investees is a share of all positions
+  pub each-position-on-one-investee : (p : PlainBook) → KeptByEveryRun p → positionsOnAll p (p .investees) ≡ length (p .positions)

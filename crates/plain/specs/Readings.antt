@@ -79,7 +79,7 @@ projectKind Bond = false
 abbrev pub isProject : PlainInvestee → Bool
 isProject x = projectKind (x .profile .kind)
 
--- exposure by exposure, over the counted investees
+-- by exposure, over the counted investees
 abbrev pub meanGradeOf : Tables → PlainBook → Option ℕ
 meanGradeOf t p = meanOf (λ x. exposureTo x (p .positions)) (λ x. x .grade) (kept-by (isCounted t (p .positions)) (p .investees))
 

@@ -1,4 +1,5 @@
 use Rattle.plain.proofs.Kept.{kept-at-first, kept-by-a-call}
+use Rattle.plain.proofs.OnOne.{each-on-one}
 use Rattle.plain.proofs.UnderRule.{ruled-at-first, ruled-by-a-call}
 use Rattle.plain.proofs.kept_by_each_call.Needs as need
 
@@ -8,4 +9,5 @@ returns c = record {
   by-a-call = kept-by-a-call;
   at-first-under-rule = ruled-at-first;
   by-a-call-under-rule = ruled-by-a-call;
+  each-position-on-one-investee = each-on-one;
 }
