@@ -62,7 +62,10 @@ pub fn book_total_text(heap: Global, total: BookTotal) -> Result<String, AllocEr
     let rest = subtotal_text(heap, total.rest)?;
     let all = subtotal_text(heap, total.all)?;
     let grade = two_decimals(heap, total.mean_grade)?;
-    format!(heap, "projects {projects}; rest {rest}; all {all}; mean grade {grade}")
+    format!(
+        heap,
+        "projects {projects}; rest {rest}; all {all}; mean grade {grade}"
+    )
 }
 
 fn fault_text(heap: Global, fault: Fault) -> Result<String, AllocError>

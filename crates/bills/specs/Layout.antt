@@ -1,5 +1,4 @@
 -- What is printed for a bill: a line for each item and two for the totals, or one line that says why there are none.
-use mathlib.Core.Path.{_≡_}
 use mathlib.Core.Bool.{cond}
 use mathlib.Core.List.{List, [], _∷_, _++_}
 use Prim.Native.Nat.{ℕ, _+_, _/_, _%_}

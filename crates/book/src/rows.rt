@@ -38,13 +38,13 @@ pub struct PositionRow {
 
 impl InvesteeRow {
     // An investee with its first reading.
-    pub(crate) fn opened(profile: Profile, reading: Reading) -> InvesteeRow
-        ensures { λ r. ⌜ plainInvestee r ≡ opened profile reading ⌝ }
+    pub(crate) fn opened(profile: Profile, first: Reading) -> InvesteeRow
+        ensures { λ r. ⌜ plainInvestee r ≡ opened profile first ⌝ }
     {
         InvesteeRow {
             profile,
-            kilograms: reading.kilograms,
-            grade: reading.grade,
+            kilograms: first.kilograms,
+            grade: first.grade,
             reduction: 0,
             reduced: false,
         }

@@ -1,6 +1,5 @@
 // Emission factors, and the kilograms that an activity comes to.
 ghost use mathlib.Core.Path.{_≡_};
-ghost use Prim.Native.Nat.{ℕ};
 ghost use Rattle.factors.specs.Factors.{rowNumbered, factorOf, tenthsOf, kilogramsOf, roundedUp, LeastWhole};
 
 // The largest quantity of an activity, in its row's unit.

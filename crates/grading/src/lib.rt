@@ -91,57 +91,17 @@ mod tests {
         }
     }
 
+    fn weighted(weight: u64, grade: u64) -> Sample {
+        Sample { weight, grade }
+    }
+
     #[test]
     fn means() -> Result<(), Fail> {
         let nothing: [Sample; 0] = [];
         check_eq(mean(&nothing), None)?;
-        check_eq(
-            mean(
-                &[Sample {
-                    weight: 0,
-                    grade: 3,
-                }],
-            ),
-            None,
-        )?;
-        check_eq(
-            mean(
-                &[
-                    Sample {
-                        weight: 199,
-                        grade: 1,
-                    },
-                    Sample {
-                        weight: 1,
-                        grade: 2,
-                    },
-                ],
-            ),
-            Some(101),
-        )?;
-        check_eq(
-            mean(
-                &[
-                    Sample {
-                        weight: 201,
-                        grade: 1,
-                    },
-                    Sample {
-                        weight: 1,
-                        grade: 2,
-                    },
-                ],
-            ),
-            Some(100),
-        )?;
-        check_eq(
-            mean(
-                &[Sample {
-                    weight: 1_000_000_000_000,
-                    grade: 5,
-                }; 3],
-            ),
-            Some(500),
-        )
+        check_eq(mean(&[weighted(0, 3)]), None)?;
+        check_eq(mean(&[weighted(199, 1), weighted(1, 2)]), Some(101))?;
+        check_eq(mean(&[weighted(201, 1), weighted(1, 2)]), Some(100))?;
+        check_eq(mean(&[weighted(1_000_000_000_000, 5); 3]), Some(500))
     }
 }

@@ -37,7 +37,7 @@ fn fields(row: Row) -> InvesteeFields
     }
 }
 
-// Both sides of each limit that the guides draw.
+// Both sides of each limit that the guides set.
 const TABLE: [Row; 16] = [
     Row {
         id: 1,

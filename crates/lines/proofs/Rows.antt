@@ -10,7 +10,6 @@ use Rattle.std.specs.declared.option.Option.the-variants.{Some, None}
 use Rattle.std.specs.declared.result.Result.{Result}
 use Rattle.std.specs.declared.result.Result.the-variants.{Ok, Err}
 use Rattle.std.proofs.shelf.Lists.{take-more-set, take-all, length-set}
-use Rattle.lines.proofs.Numbers.{spells-from-number}
 use Rattle.lines.specs.Fields.{numbersOf, first}
 use Rattle.lines.specs.Numerals.{numberOf}
 
@@ -73,13 +72,3 @@ more k p i n was out f left next lt so is reads =
 pub all : (k p i : ℕ) (was : List (List ℕ)) (out : List ℕ) (left : List (List ℕ)) → k ≤ i → Sofar k p i was out left → numbersOf k p was ≡ Ok (out, left)
 all k p i was out left le so =
     read-all k p i was (take i out) left le (so .1) ∙ ap (λ l. Ok (l, left)) (take-all i out (omega (arith, so .0)))
-
--- what is read has at most 13 digits
-pub first-bound : (k p : ℕ) (fs : List (List ℕ)) (ns : List ℕ) (gs : List (List ℕ)) → numbersOf (suc k) p fs ≡ Ok (ns, gs) → getD ns 0 0 < 10 ^ 13
-first-bound k p [] ns gs h = let z : _≡_ {A = ℕ} 0 1 = cc in absurd (omega arith)
-first-bound k p (f ∷ fs) ns gs h = go (numberOf f) refl (numbersOf k (suc p) fs) h
-  where
-    go : (o : Option ℕ) → numberOf f ≡ o → (r : Result (List ℕ × List (List ℕ)) ℕ) → first p o r ≡ Ok (ns, gs) → getD ns 0 0 < 10 ^ 13
-    go None e r h = let z : _≡_ {A = ℕ} 0 1 = cc in absurd (omega arith)
-    go (Some n) e (Err q) h = let z : _≡_ {A = ℕ} 0 1 = cc in absurd (omega arith)
-    go (Some n) e (Ok r) h = let pair : _≡_ {A = List ℕ × List (List ℕ)} (ns, gs) (n ∷ r .0, r .1) = cc in let at : getD ns 0 0 ≡ n = ap (λ x. getD (x .0) 0 0) pair in omega (arith, spells-from-number f n e .1)

@@ -40,7 +40,8 @@ pub struct Pieces<'a> {
 
 impl<'a> Pieces<'a> {
     pub fn new(bytes: &'a [u8], separator: u8) -> Pieces<'a>
-        ensures { λ r. ⌜ piecesLeft (r .separator) (r .rest) ≡ pieces separator (now (bytes .entry)) ⌝ }
+        ensures pieces { λ r. ⌜ piecesLeft (r .separator) (r .rest) ≡ pieces separator (now (bytes .entry)) ⌝ }
+        ensures separator { λ r. ⌜ r .separator ≡ separator ⌝ }
     {
         Pieces {
             rest: Some(bytes),
@@ -50,7 +51,8 @@ impl<'a> Pieces<'a> {
 
     // The next piece; nothing after the last.
     pub fn next(&mut self) -> Option<&'a [u8]>
-        ensures { λ r. ⌜ Next (piecesLeft (now (self .entry) .separator) (now (self .entry) .rest)) (mapped now r) (piecesLeft (now (self .exit) .separator) (now (self .exit) .rest)) ⌝ }
+        ensures step { λ r. ⌜ Next (piecesLeft (now (self .entry) .separator) (now (self .entry) .rest)) (mapped now r) (piecesLeft (now (self .exit) .separator) (now (self .exit) .rest)) ⌝ }
+        ensures separator { λ _. ⌜ now (self .exit) .separator ≡ now (self .entry) .separator ⌝ }
     {
         let Some(rest) = self.rest else {
             return None;

@@ -1,4 +1,4 @@
--- The laws of `rounded`, and all that other proofs use of it.
+-- What is shown of `rounded`: all that other proofs use of it.
 use mathlib.Core.Path.{_≡_, refl, sym, ap, _∙_}
 use mathlib.Core.Logic.{_≢_, _⊎_, inl, inr}
 use Prim.Native.Nat.{ℕ, zero, suc, _+_, _*_, _/_, _≤_, _<_}
@@ -82,7 +82,7 @@ rounded-step F c a B h = rw (sub-mul (rounded F (c + a) B) (rounded F c B) (pos 
     go (pos f) = omega (arith, ints, times-up (pos f) c B h, times-down (pos f) c B h, times-up (pos f) (c + a) B h, times-down (pos f) (c + a) B h)
     go (negsuc f) = omega (arith, ints, times-up (negsuc f) c B h, times-down (negsuc f) c B h, times-up (negsuc f) (c + a) B h, times-down (negsuc f) (c + a) B h)
 
--- ---- what is promised of the error
+-- ---- how large the error can be
 
 -- nothing is near nothing
 pub no-part-near : (B : ℕ) → 0 < B → PartNearShare (pos 0) (pos 0 over B)

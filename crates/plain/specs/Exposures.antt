@@ -57,7 +57,7 @@ closingTo x qs = sumBy closingOf (positionsOn (idOf x) qs)
 
 -- ---- the rule's tables
 
--- an amount is for each month; an investee for which the rule has no base is never opened
+-- exposures add up a balance for each month, so an amount is taken as often; an investee for which the rule has no base is never opened
 abbrev pub denominatorFrom : Result Base Refusal → Denominator
 denominatorFrom (Ok (Amount n)) = atLeast (months * n)
 denominatorFrom (Ok Whole) = whole

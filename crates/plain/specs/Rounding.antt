@@ -1,6 +1,6 @@
--- How a fraction of a figure becomes whole kilograms, and what is promised of the error.
--- The three promises stand here, under names of their own, since they change when the rounding does; of all proofs only
--- proofs/Rounding.antt knows how `rounded` rounds.
+-- How a fraction of a figure becomes whole kilograms, and how large the error can be.
+-- The three statements on the error stand here, under names of their own, since they change when the rounding does; of all
+-- proofs that reason about `rounded` only proofs/Rounding.antt unfolds it.
 use mathlib.Core.Logic.{_↔_}
 use mathlib.Core.Path.{_≡_}
 use Prim.Native.Nat.{ℕ, _*_, _≤_, _<_}
@@ -20,6 +20,6 @@ PartNearShare n x = gap n x < x .bottom
 abbrev pub TotalNearExactSum : ℕ → ℤ → Fraction → Type 0
 TotalNearExactSum k n x = gap n x ≤ k * x .bottom
 
--- the total is the whole figure, if that is not 0, exactly when the exposures reach the denominator
+-- the total is the whole figure exactly when the exposures reach the denominator
 abbrev pub TotalIsFigureWhen : Type 0 → ℤ → ℤ → Type 0
 TotalIsFigureWhen Reached total figure = (total ≡ figure) ↔ Reached

@@ -43,14 +43,14 @@ loan = lent (pos 1000) (40000 ∷ 1 ∷ [])
 abbrev pub project : Profile
 project = record { id = 8; kind = Project; sector = 0; size = Large; days = 0; figures = accounts 0 0 }
 
--- as many investees as there may be, or as many positions
+-- a book with no room for another investee, and one with no room for another position
 abbrev pub fullOfInvestees : PlainBook
 fullOfInvestees = withInvestees loan (loan .investees ++ replicate mostInvestees (opened project (reading (pos 0) 1)))
 
 abbrev pub fullOfPositions : PlainBook
 fullOfPositions = withPositions loan (loan .positions ++ replicate mostPositions (newPosition 40 8))
 
--- an opening of this id, kind and revenue
+-- an opening of this id, kind, days and revenue
 abbrev pub opening : ℕ → ℕ → ℕ → ℕ → Meaning → Step
 opening id kind days revenue meaning = enter (record { id = id; kind = kind; sector = 0; size = 2; days = days; figures = accounts revenue 0 }) meaning
 
@@ -58,7 +58,7 @@ opening id kind days revenue meaning = enter (record { id = id; kind = kind; sec
 abbrev pub fails : Meaning
 fails = Err (fault (Custom 77) 3 12)
 
--- ---- the calls with their numbers; each row with a refusal has others that would apply later
+-- ---- the calls with their numbers; most rows with a refusal have others that would apply later
 
 abbrev pub openings : List (Step × ℕ)
 openings =

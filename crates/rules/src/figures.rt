@@ -27,7 +27,7 @@ impl Figures {
     }
 }
 
-// What exposures are divided by: an amount in wan for each month, or whatever they add up to.
+// What exposures are divided by: twelve times an amount in wan, or whatever they add up to.
 #[derive(Clone, Copy, Debug, PartialEq, Eq)]
 pub enum Base {
     Amount(u64),

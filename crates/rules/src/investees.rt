@@ -33,7 +33,7 @@ pub struct InvesteeFields {
     pub figures: Figures,
 }
 
-// An investee whose fields are within their ranges. Its days are those that a project has run or a loan has been outstanding.
+// An investee as `checked` makes it, with fields within their ranges. Its days are those that a project has run or a loan has been outstanding.
 #[derive(Clone, Copy, Debug, PartialEq, Eq)]
 pub struct Profile {
     pub id: u32,

@@ -1,4 +1,4 @@
-// The limits that both guides draw.
+// The limits that both guides set.
 use crate::MONTHS;
 
 // The days from which an investee is counted.

@@ -8,7 +8,7 @@ use crate::source::Source;
 use faults::Fault;
 use faults::Refusal;
 
-// Who stands behind a report.
+// The marks of a report.
 pub const NEITHER: u64 = 0;
 
 pub const VERIFIED: u64 = 1;

@@ -60,14 +60,14 @@ fn post(branch: u64, id: u64, month: u64, balance: u64) -> Call<Reads> {
     }
 }
 
-// Does the calls, as one run, and prints each with its answer.
-fn show<const N: usize>(
+// Does the calls, at most eight, as one run, and prints each with its answer.
+fn show(
     rt: &LibcRuntime,
     book: &mut Book<'_, National>,
-    labels: [&str; N],
+    labels: &[&str],
     calls: &[Call<Reads>],
 ) -> io::Result<()> {
-    let mut answers = [Answer::Done; N];
+    let mut answers = [Answer::Done; 8];
     book.run(calls, &mut answers);
     for (label, answer) in labels.iter().zip(answers.iter()) {
         let text = answer_text(rt.alloc(), *answer)?;
@@ -84,12 +84,24 @@ fn openings(rt: &LibcRuntime, book: &mut Book<'_, National>) -> io::Result<()> {
         "open 9, a bond",
     ];
     let calls = [
-        Call::Open { fields: fields(7, 5, 0, 10_000), source: reported(1_000) },
-        Call::Open { fields: fields(8, 1, 20_000, 0), source: reported(2_400) },
-        Call::Open { fields: fields(7, 5, 0, 10_000), source: reported(1) },
-        Call::Open { fields: fields(9, 6, 0, 0), source: reported(1) },
+        Call::Open {
+            fields: fields(7, 5, 0, 10_000),
+            source: reported(1_000),
+        },
+        Call::Open {
+            fields: fields(8, 1, 20_000, 0),
+            source: reported(2_400),
+        },
+        Call::Open {
+            fields: fields(7, 5, 0, 10_000),
+            source: reported(1),
+        },
+        Call::Open {
+            fields: fields(9, 6, 0, 0),
+            source: reported(1),
+        },
     ];
-    show(rt, book, labels, &calls)
+    show(rt, book, &labels, &calls)
 }
 
 fn posts(rt: &LibcRuntime, book: &mut Book<'_, National>) -> io::Result<()> {
@@ -109,7 +121,7 @@ fn posts(rt: &LibcRuntime, book: &mut Book<'_, National>) -> io::Result<()> {
         post(1, 7, 1, 1),
         post(41, 7, 1, 1),
     ];
-    show(rt, book, labels, &calls)
+    show(rt, book, &labels, &calls)
 }
 
 fn readings(rt: &LibcRuntime, book: &mut Book<'_, National>) -> io::Result<()> {
@@ -131,7 +143,7 @@ fn readings(rt: &LibcRuntime, book: &mut Book<'_, National>) -> io::Result<()> {
         Call::Sheet { branch: 1 },
         Call::BookTotal,
     ];
-    show(rt, book, labels, &calls)
+    show(rt, book, &labels, &calls)
 }
 
 fn changes(rt: &LibcRuntime, book: &mut Book<'_, National>) -> io::Result<()> {
@@ -143,13 +155,32 @@ fn changes(rt: &LibcRuntime, book: &mut Book<'_, National>) -> io::Result<()> {
         "restate 5",
     ];
     let calls = [
-        Call::Restate { id: 8, source: reported(3_000) },
-        Call::Reduce { id: 7, source: saved(800, 1_000) },
-        Call::Amend { branch: 3, id: 7, month: 12, balance: 10_000 },
-        Call::Amend { branch: 3, id: 7, month: 11, balance: 1 },
-        Call::Restate { id: 5, source: reported(1) },
+        Call::Restate {
+            id: 8,
+            source: reported(3_000),
+        },
+        Call::Reduce {
+            id: 7,
+            source: saved(800, 1_000),
+        },
+        Call::Amend {
+            branch: 3,
+            id: 7,
+            month: 12,
+            balance: 10_000,
+        },
+        Call::Amend {
+            branch: 3,
+            id: 7,
+            month: 11,
+            balance: 1,
+        },
+        Call::Restate {
+            id: 5,
+            source: reported(1),
+        },
     ];
-    show(rt, book, labels, &calls)
+    show(rt, book, &labels, &calls)
 }
 
 fn main(rt: LibcRuntime) -> io::Result<()> {

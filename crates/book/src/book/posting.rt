@@ -147,8 +147,8 @@ impl<'r, R: Rule> Book<'r, R> {
         ensures told { λ r. ⌜ told done r ≡ answer (tables (now (self .entry) .rule .now)) (plain (now (self .entry))) (amend branch id month balance) ⌝ }
     {
         let row = self.entry(branch, id, month, balance)?;
-        if let Some(fault) = self.amend_fault(row, branch, month, balance) {
-            return Err(fault);
+        if let Some(refused) = self.amend_fault(row, branch, month, balance) {
+            return Err(refused);
         }
         self.positions
             .replace(branch as u8, row.profile.id, month, balance as u32);

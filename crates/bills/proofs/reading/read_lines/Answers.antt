@@ -9,28 +9,28 @@ use Rattle.bills.proofs.Sofar.{sofar-none, sofar-more, sofar-wrong, sofar-last
 use Rattle.bills.proofs.reading.read_lines.Needs as need
 
 pub loop-line-holds : need.loop-line-holds
-loop-line-holds c = sofar-none _ _ _ (c .new-items .ensures .items) (c .new-lines .ensures)
+loop-line-holds c = sofar-none _ _ _ (c .new-items .ensures .items) (c .new-lines .ensures .pieces)
 
 pub returns-then-is-empty : need.returns-then-is-empty
 returns-then-is-empty c =
-    sofar-last _ _ _ (c .loop-line .inv) _ _ (c .in-Some .ensures tt) (left-none _ _ (c .if-is-none .ensures tt)) (sym (c .if-is-empty .ensures tt))
+    sofar-last _ _ _ (c .loop-line .inv) _ _ (c .in-Some .ensures tt .step) (left-none _ _ (c .if-is-none .ensures tt)) (sym (c .if-is-empty .ensures tt))
 
 pub returns-then-is-none : need.returns-then-is-none
 returns-then-is-none c =
-    sofar-unended _ _ _ (c .loop-line .inv) _ _ (c .in-Some .ensures tt) (left-none _ _ (c .if-is-none .ensures tt)) (sym (c .if-is-empty .ensures tt))
+    sofar-unended _ _ _ (c .loop-line .inv) _ _ (c .in-Some .ensures tt .step) (left-none _ _ (c .if-is-none .ensures tt)) (sym (c .if-is-empty .ensures tt))
     ∙ ap (λ n. Err (Unended (n + 1))) (sym (c .len .ensures ∙ c .loop-line .items .ok .0))
 
 pub loop-line-less : need.loop-line-less
-loop-line-less c = let h = c .in-Some .ensures tt in omega (arith, ap length h)
+loop-line-less c = let h = c .in-Some .ensures tt .step in omega (arith, ap length h)
 
 pub loop-line-again : need.loop-line-again
 loop-line-again c =
-    sofar-more _ _ _ (c .loop-line .inv) _ _ (c .in-Ok .item) _ (c .in-Some .ensures tt) (left-some _ _ (c .if-is-none .ensures tt)) (c .in-Ok .ensures tt) (c .in-Continue-push .ensures tt .items)
+    sofar-more _ _ _ (c .loop-line .inv) _ _ (c .in-Ok .item) _ (c .in-Some .ensures tt .step) (left-some _ _ (c .if-is-none .ensures tt)) (c .in-Ok .ensures tt) (c .in-Continue-push .ensures tt .items)
 
 pub returns-in-Err : need.returns-in-Err
 returns-in-Err c =
-    sofar-wrong _ _ _ (c .loop-line .inv) _ _ (c .in-Err .error) (c .in-Some .ensures tt) (left-some _ _ (c .if-is-none .ensures tt)) (c .in-Err .ensures tt)
+    sofar-wrong _ _ _ (c .loop-line .inv) _ _ (c .in-Err .error) (c .in-Some .ensures tt .step) (left-some _ _ (c .if-is-none .ensures tt)) (c .in-Err .ensures tt)
     ∙ ap (λ n. Err (Line (n + 1) (c .in-Err .error))) (sym (c .len-in-Err .ensures ∙ c .loop-line .items .ok .0))
 
 pub returns : need.returns
-returns c = sofar-all _ _ _ (c .loop-line .inv) (c .in-rest .ensures tt .0)
+returns c = sofar-all _ _ _ (c .loop-line .inv) (c .in-rest .ensures tt .step .0)

@@ -37,7 +37,7 @@ returns-in-Some g c =
     let t = g .R·Rule .tables (c .args .self .now .rule .now) in
     let p = plain (c .args .self .now) in
     let call = amend (c .args .branch) (c .args .id) (c .args .month) (c .args .balance) in
-    let f = c .in-Some .fault in
+    let f = c .in-Some .refused in
     let d = amend-entered p (c .args .branch) (c .args .id) (c .args .month) (c .args .balance) t (plainInvestee (c .in-Continue-row .row)) (c .in-Continue-row .ensures tt) ∙ sym (c .in-Some .ensures tt) in
     record {
       book = sym (after-declined t p call f d);

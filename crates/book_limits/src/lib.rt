@@ -1,0 +1,3 @@
+// A book at its limits: examples that run.
+#[cfg(test)]
+mod tests;
