@@ -1,4 +1,6 @@
 // What a book answers, as text.
+#![tactic(auto)]
+
 ghost use Rattle.std.specs.Prelude.{◌≡◌, IfOk, string_bytes};
 ghost use Rattle.accounts.specs.Layout.{two_decimals, kilograms_text, total_text, subtotal_text, book_total_text, fault_text, answer_text};
 

@@ -1,3 +1,5 @@
 // A book at its limits: examples that run.
+#![tactic(auto)]
+
 #[cfg(test)]
 mod tests;

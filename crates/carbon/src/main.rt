@@ -1,4 +1,6 @@
 // Reads a portfolio file on standard input, and prints the page of its book or where it stops.
+#![tactic(auto)]
+
 use answering::answer::answer;
 use pages::page::ROOM;
 use portfolio::layout::MOST_BYTES;

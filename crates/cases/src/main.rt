@@ -1,4 +1,6 @@
 // The worked cases, each with its result.
+#![tactic(auto)]
+
 mod bills;
 mod lending;
 

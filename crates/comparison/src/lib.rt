@@ -1,4 +1,6 @@
 // What both guides say of an investee, as a line of text.
+#![tactic(auto)]
+
 ghost use Rattle.std.specs.Prelude.{◌≡◌, IfOk, string_bytes};
 ghost use Rattle.rules.specs.Attributions.{attribution_of};
 ghost use Rattle.rules.specs.National.{national_tables};

@@ -1,4 +1,6 @@
 // Emission factors, and the kilograms that an activity comes to.
+#![tactic(auto)]
+
 ghost use Rattle.std.specs.Prelude.{◌≡◌};
 ghost use Rattle.factors.specs.Factors.{row_numbered, factor_of, tenths_of, kilograms_of, rounded_up, LeastWhole};
 

@@ -1,4 +1,6 @@
 // Why a call is declined, and where.
+#![tactic(auto)]
+
 ghost use Rattle.std.specs.Prelude.{◌≡◌};
 ghost use Rattle.faults.specs.Refusals.{fault, number_of};
 

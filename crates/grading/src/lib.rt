@@ -1,4 +1,6 @@
 // One mean for every kind of record that has a weight and a grade.
+#![tactic(auto)]
+
 ghost use Rattle.std.specs.Prelude.{◌≡◌, ℕ, ◌*◌, ◌<◌, ◌≤◌, min, sum_by};
 ghost use Rattle.grading.specs.Mean.{mean_of, half_up, nearest_hundredths, Summed, IsNearest, IsNearestMean};
 

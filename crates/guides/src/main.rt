@@ -1,4 +1,6 @@
 // Prints what the guides of the People's Bank and of Pudong say of a table of investees, so that the difference can be seen.
+#![tactic(auto)]
+
 ghost use Rattle.std.specs.Prelude.{◌≡◌};
 ghost use Rattle.guides.specs.Rows.{fields_of};
 

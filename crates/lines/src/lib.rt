@@ -1,4 +1,6 @@
 // Lines of decimal numbers: what is accepted is exactly what is printed.
+#![tactic(auto)]
+
 pub mod fields;
 pub mod line;
 pub mod numerals;

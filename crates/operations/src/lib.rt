@@ -1,4 +1,6 @@
 // The emissions of a lender's own operations.
+#![tactic(auto)]
+
 pub mod items;
 pub mod work;
 

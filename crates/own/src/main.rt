@@ -1,4 +1,6 @@
 // Reads a bill of own operations on standard input and prints what it comes to.
+#![tactic(auto)]
+
 use bills::answer::answer;
 use bills::reading::MOST_BYTES;
 use std::io;

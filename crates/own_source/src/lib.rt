@@ -1,4 +1,6 @@
 // A source of a caller's own: emissions measured by a gauge at the stack.
+#![tactic(auto)]
+
 ghost use Rattle.std.specs.Prelude.{◌≡◌};
 ghost use Rattle.sources.specs.Layers.{offset_meaning};
 ghost use Rattle.own_source.specs.Measured.{measured_meaning, measured-within};

@@ -1,3 +1,5 @@
 // Pages of small books and of a full one: examples that run.
+#![tactic(auto)]
+
 #[cfg(test)]
 mod tests;

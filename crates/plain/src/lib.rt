@@ -1,4 +1,6 @@
 // The plain book: what a book of financed emissions is and answers, as mathematics that the engine's contracts cite.
+#![tactic(auto)]
+
 ghost use Rattle.plain.specs.Due.{RefusedWhenDue};
 ghost use Rattle.plain.specs.EveryRun.{EveryRunKeepsEveryKilogram};
 ghost use Rattle.plain.specs.Kept.{KeptByEachCall};

@@ -1,4 +1,6 @@
 // The positions of a book: what each branch has lent to each investee, in the order of the first posts.
+#![tactic(auto)]
+
 ghost use Rattle.std.specs.Prelude.{◌≡◌, ◌*◌, ◌^◌, ◌≤◌, if◌then◌else◌, None, vec_len, vec_capacity, sum_by, ◌==◌, nat_eq};
 ghost use Rattle.std.specs.Option.{unwrap_or};
 ghost use Rattle.rules.specs.Months.{months};

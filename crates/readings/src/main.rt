@@ -1,4 +1,6 @@
 // Prints what each source and layer reads for a table of cases.
+#![tactic(auto)]
+
 use factors::Activity;
 use sources::economic::Economic;
 use sources::either::Either;

@@ -1,4 +1,6 @@
 // Attribution rules: what an investee's exposures are divided by, and whether it is counted.
+#![tactic(auto)]
+
 pub mod figures;
 pub mod investees;
 pub mod kinds;

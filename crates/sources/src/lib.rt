@@ -1,4 +1,6 @@
 // Emission sources, and the layers over them.
+#![tactic(auto)]
+
 pub mod economic;
 pub mod either;
 pub mod estimate;

@@ -1,4 +1,6 @@
 // A year of a small book under the People's Bank guide: each call with its answer.
+#![tactic(auto)]
+
 use accounts::answer_text;
 use book::book::Book;
 use book::calls::Call;
