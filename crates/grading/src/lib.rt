@@ -43,8 +43,8 @@ fn nearest_hundredths(sum: u128, total: u128) -> Option<u32>
 
 // Weight × grade and weight, each added up.
 fn sums<T: Graded>(records: &[T]) -> (u128, u128)
-    ensures graded { result.0 ≡ sum_by (λ x. weight x * grade x) records.now }
-    ensures weights { result.1 ≡ sum_by weight records.now }
+    ensures graded { result.0 ≡ sum_by (λ x. T.weight x * T.grade x) records.now }
+    ensures weights { result.1 ≡ sum_by T.weight records.now }
     ensures bound { Summed result.0 result.1 }
 {
     let mut total: u128 = 0;
@@ -59,8 +59,8 @@ fn sums<T: Graded>(records: &[T]) -> (u128, u128)
 
 // The mean grade by weight, in hundredths, nearest, half up; nothing where the weights add up to 0.
 pub fn mean<T: Graded>(records: &[T]) -> Option<u32>
-    ensures value { result ≡ mean_of weight grade records.now }
-    ensures nearest { IsNearestMean weight grade records.now result }
+    ensures value { result ≡ mean_of T.weight T.grade records.now }
+    ensures nearest { IsNearestMean T.weight T.grade records.now result }
 {
     let (sum, total) = sums(records);
     nearest_hundredths(sum, total)

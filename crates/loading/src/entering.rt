@@ -21,7 +21,7 @@ fn open_all<R: Rule>(
     first: usize,
 ) -> Result<usize, Stop>
     requires { first + length (investees_left investees) < 2 ^ 32 }
-    ensures tried { outcome (plain book.new) (result_err result) ≡ tried (tables book.old.rule.now) first (plain book.old) (map opening (investees_left investees.entry)) }
+    ensures tried { outcome (plain book.new) (result_err result) ≡ tried (R.tables book.old.rule.now) first (plain book.old) (map opening (investees_left investees.entry)) }
     ensures next { IfOk result (λ line. line ≡ first + length (investees_left investees.entry)) }
     ensures rule { book.new.rule ≡ book.old.rule }
 {
@@ -38,7 +38,7 @@ fn open_all<R: Rule>(
 // Makes the posts, the key of the first of which stands in this line, to the last or to the first that is declined.
 fn post_all<R: Rule>(book: &mut Book<'_, R>, mut posts: Posts<'_>, first: usize) -> Result<(), Stop>
     requires { first + length (posts_left posts) < 2 ^ 32 }
-    ensures tried { outcome (plain book.new) (result_err result) ≡ tried (tables book.old.rule.now) first (plain book.old) (map posting (posts_left posts.entry)) }
+    ensures tried { outcome (plain book.new) (result_err result) ≡ tried (R.tables book.old.rule.now) first (plain book.old) (map posting (posts_left posts.entry)) }
     ensures rule { book.new.rule ≡ book.old.rule }
 {
     let mut line = first;
@@ -54,7 +54,7 @@ fn post_all<R: Rule>(book: &mut Book<'_, R>, mut posts: Posts<'_>, first: usize)
 // Opens the investees of a portfolio, then makes its posts, to the last entry or to the first that is declined.
 pub(crate) fn enter<R: Rule>(book: &mut Book<'_, R>, portfolio: Portfolio<'_>) -> Result<(), Stop>
     requires { first_entry_line + (length (plain_portfolio portfolio).investees + length (plain_portfolio portfolio).posts) < 2 ^ 32 }
-    ensures tried { outcome (plain book.new) (result_err result) ≡ tried (tables book.old.rule.now) first_entry_line (plain book.old) (entries_of (plain_portfolio portfolio.entry)) }
+    ensures tried { outcome (plain book.new) (result_err result) ≡ tried (R.tables book.old.rule.now) first_entry_line (plain book.old) (entries_of (plain_portfolio portfolio.entry)) }
     ensures rule { book.new.rule ≡ book.old.rule }
 {
     let line = open_all(book, portfolio.investees(), FIRST_ENTRY_LINE)?;

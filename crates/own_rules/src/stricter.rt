@@ -13,9 +13,9 @@ pub struct Stricter<'a, R> {
 }
 
 impl<'a, R: Rule> Rule for Stricter<'a, R> {
-    ghost tables = { λ r. stricter_tables r.least (R.Rule.tables r.rule.now) };
+    ghost tables = { λ r. stricter_tables r.least (R.tables r.rule.now) };
 
-    ghost lawful = { λ r. stricter-lawful r.least (R.Rule.tables r.rule.now) (R.Rule.lawful r.rule.now) };
+    ghost lawful = { λ r. stricter-lawful r.least (R.tables r.rule.now) (R.lawful r.rule.now) };
 
     fn base(&self, kind: Kind, figures: Figures) -> Result<Base, Refusal> {
         self.rule.base(kind, figures)

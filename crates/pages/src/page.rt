@@ -21,8 +21,8 @@ fn too_short(len: usize) -> bool
 // The page at the start of a buffer with room for it, and how long it is.
 fn write_page<R: Rule>(book: &Book<'_, R>, buffer: &mut [u8]) -> usize
     requires { room ≤ length buffer.old }
-    ensures bytes { result ≡ length (page_text (tables book.now.rule.now) (plain book.now)) }
-    ensures buffer { buffer.new ≡ placed (tables book.now.rule.now) (plain book.now) buffer.old }
+    ensures bytes { result ≡ length (page_text (R.tables book.now.rule.now) (plain book.now)) }
+    ensures buffer { buffer.new ≡ placed (R.tables book.now.rule.now) (plain book.now) buffer.old }
     ensures within { result ≤ room }
 {
     let accounts = book.accounts();
@@ -35,8 +35,8 @@ fn write_page<R: Rule>(book: &Book<'_, R>, buffer: &mut [u8]) -> usize
 }
 
 fn answered<R: Rule>(book: &Book<'_, R>, buffer: &mut [u8]) -> Result<usize, Fault>
-    ensures result { result ≡ page_result (tables book.now.rule.now) (plain book.now) buffer.old }
-    ensures buffer { buffer.new ≡ buffer_after (tables book.now.rule.now) (plain book.now) buffer.old }
+    ensures result { result ≡ page_result (R.tables book.now.rule.now) (plain book.now) buffer.old }
+    ensures buffer { buffer.new ≡ buffer_after (R.tables book.now.rule.now) (plain book.now) buffer.old }
     ensures within { IfOk result (λ bytes. bytes ≤ room) }
 {
     if too_short(buffer.len()) {
@@ -47,10 +47,10 @@ fn answered<R: Rule>(book: &Book<'_, R>, buffer: &mut [u8]) -> Result<usize, Fau
 
 // The same, with what the lines add up to.
 fn added_up<R: Rule>(book: &Book<'_, R>, buffer: &mut [u8]) -> Result<usize, Fault>
-    ensures result { result ≡ page_result (tables book.now.rule.now) (plain book.now) buffer.old }
-    ensures buffer { buffer.new ≡ buffer_after (tables book.now.rule.now) (plain book.now) buffer.old }
+    ensures result { result ≡ page_result (R.tables book.now.rule.now) (plain book.now) buffer.old }
+    ensures buffer { buffer.new ≡ buffer_after (R.tables book.now.rule.now) (plain book.now) buffer.old }
     ensures within { IfOk result (λ bytes. bytes ≤ room) }
-    ensures adds_up { PageAddsUp (tables book.now.rule.now) (plain book.now) }
+    ensures adds_up { PageAddsUp (R.tables book.now.rule.now) (plain book.now) }
 {
     answered(book, buffer)
 }
@@ -58,10 +58,10 @@ fn added_up<R: Rule>(book: &Book<'_, R>, buffer: &mut [u8]) -> Result<usize, Fau
 // The page at the start of the buffer, and how long it is. The rest of the buffer stays. A buffer that is too short is
 // refused and left as it was.
 pub fn page<R: Rule>(book: &Book<'_, R>, buffer: &mut [u8]) -> Result<usize, Fault>
-    ensures result { result ≡ page_result (tables book.now.rule.now) (plain book.now) buffer.old }
-    ensures buffer { buffer.new ≡ buffer_after (tables book.now.rule.now) (plain book.now) buffer.old }
+    ensures result { result ≡ page_result (R.tables book.now.rule.now) (plain book.now) buffer.old }
+    ensures buffer { buffer.new ≡ buffer_after (R.tables book.now.rule.now) (plain book.now) buffer.old }
     ensures within { IfOk result (λ bytes. bytes ≤ room) }
-    ensures adds_up { PageAddsUp (tables book.now.rule.now) (plain book.now) }
+    ensures adds_up { PageAddsUp (R.tables book.now.rule.now) (plain book.now) }
 {
     added_up(book, buffer)
 }

@@ -48,8 +48,8 @@ kind-number n k e =
     (λ h. (omega arith, omega arith))
     (or-outside n 6)
 
-size_number : (n : ℕ) (z : Size) → size_numbered n ≡ Some z → (1 ≤ n) × (n ≤ 5)
-size_number n z e =
+size-number : (n : ℕ) (z : Size) → size_numbered n ≡ Some z → (1 ≤ n) × (n ≤ 5)
+size-number n z e =
     ⊎_elim
     (λ h. let none : size_numbered n ≡ None = grind (arith, nat_tests) in absurd (none-some z (sym none ∙ e)))
     (λ h. (omega arith, omega arith))
@@ -102,7 +102,7 @@ accepted-within f w =
 refused-where : (f : InvesteeFields) (k : Option Kind) (z : Option Size) → kind_numbered f.kind ≡ k → size_numbered f.size ≡ z → (WithinRanges f → ⊥) → profiled f k z ≡ out_of_range
 refused-where f (Some k) (Some z) p q h =
     let kind = kind-number f.kind k p in
-    let size = size_number f.size z q in
+    let size = size-number f.size z q in
     cond_both (numbers_in_range f) (Ok (profile f k z)) out_of_range (λ r. r ≡ out_of_range)
     (λ e. absurd (h (numbers-within f e kind.0 kind.1 size.0 size.1))) (λ _. refl)
 refused-where f (Some k) None p q h = refl

@@ -32,7 +32,7 @@ pub struct Attribution {
 }
 
 fn answered<R: Rule>(rule: &R, investee: Profile, exposure: u64, closing: u64) -> Attribution
-    ensures { result ≡ attribution_of (tables rule.now) investee exposure closing }
+    ensures { result ≡ attribution_of (R.tables rule.now) investee exposure closing }
 {
     Attribution {
         base: rule.base(investee.kind, investee.figures),
@@ -53,7 +53,7 @@ fn answered_in_range<R: Rule>(
     exposure: u64,
     closing: u64,
 ) -> Attribution
-    ensures value { result ≡ attribution_of (tables rule.now) investee exposure closing }
+    ensures value { result ≡ attribution_of (R.tables rule.now) investee exposure closing }
     ensures range { InRange investee.figures result }
 {
     answered(rule, investee, exposure, closing)
@@ -61,7 +61,7 @@ fn answered_in_range<R: Rule>(
 
 // What any rule says of an investee, by its exposure over the year and its closing balance.
 pub fn attributed<R: Rule>(rule: &R, investee: Profile, exposure: u64, closing: u64) -> Attribution
-    ensures value { result ≡ attribution_of (tables rule.now) investee exposure closing }
+    ensures value { result ≡ attribution_of (R.tables rule.now) investee exposure closing }
     ensures range { InRange investee.figures result }
 {
     answered_in_range(rule, investee, exposure, closing)

@@ -17,9 +17,9 @@ impl<A: Source, B: Source> Source for Either<A, B> {
     // It finds no fault by itself.
     const NUMBER: u32 = 0;
 
-    ghost meaning = { either_meaning A.Source.meaning B.Source.meaning };
+    ghost meaning = { either_meaning A.meaning B.meaning };
 
-    ghost within = { either-within A.Source.meaning B.Source.meaning A.Source.within B.Source.within };
+    ghost within = { either-within A.meaning B.meaning A.within B.within };
 
     fn read(&self) -> Result<Reading, Fault> {
         match self {

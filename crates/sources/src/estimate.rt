@@ -68,7 +68,7 @@ impl EstimateFigures {
 // What was saved against the kilograms that were expected.
 fn saved<S: Source>(expected: u64, below: &S) -> Result<Reading, Fault>
     requires { expected ≤ most_period_output * most_kilograms }
-    ensures { result ≡ on_ok (λ x. worked_out (pos expected -ℤ x.kilograms) x.grade estimate_number) (S.Source.meaning below.now) }
+    ensures { result ≡ on_ok (λ x. worked_out (pos expected -ℤ x.kilograms) x.grade estimate_number) (S.meaning below.now) }
 {
     let below = read_within_limits(below)?;
     Reading::worked_out(
@@ -89,9 +89,9 @@ pub struct Estimate<S> {
 impl<S: Source> Source for Estimate<S> {
     const NUMBER: u32 = EstimateFigures::NUMBER;
 
-    ghost meaning = { λ s. estimate_meaning s.figures (S.Source.meaning s.below) };
+    ghost meaning = { λ s. estimate_meaning s.figures (S.meaning s.below) };
 
-    ghost within = { λ s. estimate-within s.figures (S.Source.meaning s.below) (S.Source.within s.below) };
+    ghost within = { λ s. estimate-within s.figures (S.meaning s.below) (S.within s.below) };
 
     fn read(&self) -> Result<Reading, Fault> {
         let Some(expected) = self.figures.expected() else {

@@ -51,9 +51,9 @@ pub struct Offset<S> {
 impl<S: Source> Source for Offset<S> {
     const NUMBER: u32 = OffsetFigures::NUMBER;
 
-    ghost meaning = { λ s. offset_meaning s.figures (S.Source.meaning s.below) };
+    ghost meaning = { λ s. offset_meaning s.figures (S.meaning s.below) };
 
-    ghost within = { λ s. offset-within s.figures (S.Source.meaning s.below) (S.Source.within s.below) };
+    ghost within = { λ s. offset-within s.figures (S.meaning s.below) (S.within s.below) };
 
     fn read(&self) -> Result<Reading, Fault> {
         let Some(offsets) = self.figures.kilograms() else {

@@ -27,9 +27,9 @@ pub struct OverseasCut<S> {
 impl<S: Source> Source for OverseasCut<S> {
     const NUMBER: u32 = OverseasFigures::NUMBER;
 
-    ghost meaning = { λ s. overseas_meaning s.figures (S.Source.meaning s.below) };
+    ghost meaning = { λ s. overseas_meaning s.figures (S.meaning s.below) };
 
-    ghost within = { λ s. overseas-within s.figures (S.Source.meaning s.below) (S.Source.within s.below) };
+    ghost within = { λ s. overseas-within s.figures (S.meaning s.below) (S.within s.below) };
 
     fn read(&self) -> Result<Reading, Fault> {
         if self.figures.part > MOST_KILOGRAMS {

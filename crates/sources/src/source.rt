@@ -25,7 +25,7 @@ pub trait Source {
 
 // The reading of any source, with the limits that every source shows.
 pub fn read_within_limits<S: Source>(source: &S) -> Result<Reading, Fault>
-    ensures value { result ≡ S.Source.meaning source.now }
+    ensures value { result ≡ S.meaning source.now }
     ensures limits { WithinLimits result }
 {
     source.read()
@@ -38,7 +38,7 @@ pub(crate) fn read_without<S: Source>(
     refusal: Refusal,
     number: u32,
 ) -> Result<Reading, Fault>
-    ensures { result ≡ on_ok (less part refusal number) (S.Source.meaning below.now) }
+    ensures { result ≡ on_ok (less part refusal number) (S.meaning below.now) }
 {
     below.read()?.without(part, refusal, number)
 }

@@ -19,7 +19,7 @@ use sources::source::Source;
 
 // The reading of a source as emissions, which are not below zero.
 pub(super) fn emissions<S: Source>(source: &S) -> Result<Reading, Fault>
-    ensures { result ≡ emissions_in (meaning source.now) }
+    ensures { result ≡ emissions_in (S.meaning source.now) }
 {
     let reading = source.read()?;
     if reading.kilograms < 0 {
@@ -45,7 +45,7 @@ impl<'r, R: Rule> Book<'r, R> {
 
     // The investee that the fields describe, if the book and its rule take it.
     fn taken(&self, fields: InvesteeFields) -> Result<Profile, Fault>
-        ensures { result ≡ taken_by (tables self.now.rule.now) (plain self.now) fields }
+        ensures { result ≡ taken_by (R.tables self.now.rule.now) (plain self.now) fields }
     {
         let profile = fields.checked()?;
         if self.is_open(profile.id as u64) {
@@ -62,9 +62,9 @@ impl<'r, R: Rule> Book<'r, R> {
 
     // Enters an investee with a reading of its emissions.
     pub fn open<S: Source>(&mut self, fields: InvesteeFields, source: &S) -> Result<(), Fault>
-        ensures book { plain self.new ≡ after (tables self.old.rule.now) (plain self.old) (enter fields (meaning source.now)) }
+        ensures book { plain self.new ≡ after (R.tables self.old.rule.now) (plain self.old) (enter fields (S.meaning source.now)) }
         ensures rule { self.new.rule ≡ self.old.rule }
-        ensures told { told done result ≡ answer (tables self.old.rule.now) (plain self.old) (enter fields (meaning source.now)) }
+        ensures told { told done result ≡ answer (R.tables self.old.rule.now) (plain self.old) (enter fields (S.meaning source.now)) }
     {
         let profile = self.taken(fields)?;
         let reading = emissions(source)?;

@@ -65,7 +65,7 @@ fn passes(exposure: u64, base: Result<Base, Refusal>) -> bool
 
 // Whether so much is too much for an investee.
 fn too_much<R: Rule>(rule: &R, row: InvesteeRow, exposure: u64) -> Option<Fault>
-    ensures { result ≡ too_much_at (tables rule.now) (plain_investee row) exposure }
+    ensures { result ≡ too_much_at (R.tables rule.now) (plain_investee row) exposure }
 {
     if exposure_too_large(exposure) {
         return Some(Fault::plain(Refusal::ExposureTooLarge));
@@ -86,7 +86,7 @@ fn post_fault<'r, R: Rule>(
     balance: u64,
 ) -> Option<Fault>
     requires { EntryFor (plain book.now) branch month balance (plain_investee row) }
-    ensures { result ≡ post_fault (tables book.now.rule.now) (plain book.now) (plain_investee row) branch month balance }
+    ensures { result ≡ post_fault (R.tables book.now.rule.now) (plain book.now) (plain_investee row) branch month balance }
 {
     let id = row.profile.id as u64;
     if book.positions.balance(branch, id, month).is_some() {
@@ -108,7 +108,7 @@ fn amend_fault<'r, R: Rule>(
     balance: u64,
 ) -> Option<Fault>
     requires { EntryFor (plain book.now) branch month balance (plain_investee row) }
-    ensures { result ≡ amend_fault (tables book.now.rule.now) (plain book.now) (plain_investee row) branch month balance }
+    ensures { result ≡ amend_fault (R.tables book.now.rule.now) (plain book.now) (plain_investee row) branch month balance }
 {
     let Some(old) = book.positions.balance(branch, row.profile.id as u64, month) else {
         return Some(Fault::plain(Refusal::MonthNotPosted));
@@ -178,9 +178,9 @@ impl<'r, R: Rule> Book<'r, R> {
 
     // Enters the balance of a month that has none. The first post of a branch for an investee makes its position.
     pub fn post(&mut self, branch: u64, id: u64, month: u64, balance: u64) -> Result<(), Fault>
-        ensures book { plain self.new ≡ after (tables self.old.rule.now) (plain self.old) (post branch id month balance) }
+        ensures book { plain self.new ≡ after (R.tables self.old.rule.now) (plain self.old) (post branch id month balance) }
         ensures rule { self.new.rule ≡ self.old.rule }
-        ensures told { told done result ≡ answer (tables self.old.rule.now) (plain self.old) (post branch id month balance) }
+        ensures told { told done result ≡ answer (R.tables self.old.rule.now) (plain self.old) (post branch id month balance) }
     {
         let row = self.entry(branch, id, month, balance)?;
         let fault = post_fault(self, row, branch, month, balance);
@@ -196,9 +196,9 @@ impl<'r, R: Rule> Book<'r, R> {
 
     // Replaces the balance of a month that has one.
     pub fn amend(&mut self, branch: u64, id: u64, month: u64, balance: u64) -> Result<(), Fault>
-        ensures book { plain self.new ≡ after (tables self.old.rule.now) (plain self.old) (amend branch id month balance) }
+        ensures book { plain self.new ≡ after (R.tables self.old.rule.now) (plain self.old) (amend branch id month balance) }
         ensures rule { self.new.rule ≡ self.old.rule }
-        ensures told { told done result ≡ answer (tables self.old.rule.now) (plain self.old) (amend branch id month balance) }
+        ensures told { told done result ≡ answer (R.tables self.old.rule.now) (plain self.old) (amend branch id month balance) }
     {
         let row = self.entry(branch, id, month, balance)?;
         let fault = amend_fault(self, row, branch, month, balance);

@@ -141,7 +141,7 @@ fn whole_shares(standing: Standing, row: InvesteeRow) -> Kilograms
 // How an investee stands: the rule is asked once.
 fn standing_of<'r, R: Rule>(book: &Book<'r, R>, row: InvesteeRow) -> Standing
     requires { WithinLimits row.profile.figures }
-    ensures { result ≡ standing_of (tables book.now.rule.now) (plain book.now).positions (plain_investee row) }
+    ensures { result ≡ standing_of (R.tables book.now.rule.now) (plain book.now).positions (plain_investee row) }
 {
     let lending = book.positions.lending(row.profile.kind, row.profile.id);
     let attribution = attributed(book.rule, row.profile, lending.exposure, lending.closing);
@@ -156,7 +156,7 @@ fn standing_of<'r, R: Rule>(book: &Book<'r, R>, row: InvesteeRow) -> Standing
 // The part of a branch of an investee's figures.
 fn part_of<'r, R: Rule>(book: &Book<'r, R>, row: InvesteeRow, branch: u64) -> Kilograms
     requires { WithinBook (plain book.now).positions (plain_investee row) }
-    ensures { result ≡ part_of (tables book.now.rule.now) (plain book.now) branch (plain_investee row) }
+    ensures { result ≡ part_of (R.tables book.now.rule.now) (plain book.now) branch (plain_investee row) }
 {
     let turn = book
         .positions
@@ -167,7 +167,7 @@ fn part_of<'r, R: Rule>(book: &Book<'r, R>, row: InvesteeRow, branch: u64) -> Ki
 // The total of an investee, rounded once.
 fn total_of<'r, R: Rule>(book: &Book<'r, R>, row: InvesteeRow) -> InvesteeTotal
     requires { WithinBook (plain book.now).positions (plain_investee row) }
-    ensures { result ≡ total_of (tables book.now.rule.now) (plain book.now) (plain_investee row) }
+    ensures { result ≡ total_of (R.tables book.now.rule.now) (plain book.now) (plain_investee row) }
 {
     let standing = standing_of(book, row);
     InvesteeTotal {

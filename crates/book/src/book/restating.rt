@@ -27,9 +27,9 @@ impl<'r, R: Rule> Book<'r, R> {
 
     // Replaces the emissions and the grade of an investee by another reading.
     pub fn restate<S: Source>(&mut self, id: u64, source: &S) -> Result<(), Fault>
-        ensures book { plain self.new ≡ after (tables self.old.rule.now) (plain self.old) (restate id (meaning source.now)) }
+        ensures book { plain self.new ≡ after (R.tables self.old.rule.now) (plain self.old) (restate id (S.meaning source.now)) }
         ensures rule { self.new.rule ≡ self.old.rule }
-        ensures told { told done result ≡ answer (tables self.old.rule.now) (plain self.old) (restate id (meaning source.now)) }
+        ensures told { told done result ≡ answer (R.tables self.old.rule.now) (plain self.old) (restate id (S.meaning source.now)) }
     {
         let at = self.open_place(id)?;
         let reading = emissions(source)?;
@@ -40,9 +40,9 @@ impl<'r, R: Rule> Book<'r, R> {
 
     // Sets the reduction of an investee, which may be below zero. Its grade stays that of its emissions.
     pub fn reduce<S: Source>(&mut self, id: u64, source: &S) -> Result<(), Fault>
-        ensures book { plain self.new ≡ after (tables self.old.rule.now) (plain self.old) (reduce id (meaning source.now)) }
+        ensures book { plain self.new ≡ after (R.tables self.old.rule.now) (plain self.old) (reduce id (S.meaning source.now)) }
         ensures rule { self.new.rule ≡ self.old.rule }
-        ensures told { told done result ≡ answer (tables self.old.rule.now) (plain self.old) (reduce id (meaning source.now)) }
+        ensures told { told done result ≡ answer (R.tables self.old.rule.now) (plain self.old) (reduce id (S.meaning source.now)) }
     {
         let at = self.open_place(id)?;
         let reading = source.read()?;

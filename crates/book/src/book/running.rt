@@ -61,9 +61,9 @@ fn write_answer(answers: &mut [Answer], at: usize, answer: Answer)
 impl<'r, R: Rule> Book<'r, R> {
     // One call, whichever it is.
     pub fn apply<S: Source>(&mut self, call: &Call<S>) -> Answer
-        ensures book { plain self.new ≡ after (tables self.old.rule.now) (plain self.old) (step_of meaning call.now) }
+        ensures book { plain self.new ≡ after (R.tables self.old.rule.now) (plain self.old) (step_of S.meaning call.now) }
         ensures rule { self.new.rule ≡ self.old.rule }
-        ensures told { result ≡ answer (tables self.old.rule.now) (plain self.old) (step_of meaning call.now) }
+        ensures told { result ≡ answer (R.tables self.old.rule.now) (plain self.old) (step_of S.meaning call.now) }
     {
         match call {
             Call::Open { fields, source } => done_answer(self.open(*fields, source)),
@@ -91,12 +91,12 @@ impl<'r, R: Rule> Book<'r, R> {
     // The calls in their order, as many as there are places for their answers, and how many those were.
     pub fn run<S: Source>(&mut self, calls: &[Call<S>], answers: &mut [Answer]) -> usize
         ensures count { result ≡ min (length calls.now) (length answers.old) }
-        ensures book { plain self.new ≡ run (tables self.old.rule.now) (plain self.old) (steps_of meaning (take result calls.now)) }
-        ensures told { answers.new ≡ answered (tables self.old.rule.now) (plain self.old) (steps_of meaning (take result calls.now)) ++ drop result answers.old }
+        ensures book { plain self.new ≡ run (R.tables self.old.rule.now) (plain self.old) (steps_of S.meaning (take result calls.now)) }
+        ensures told { answers.new ≡ answered (R.tables self.old.rule.now) (plain self.old) (steps_of S.meaning (take result calls.now)) ++ drop result answers.old }
         ensures rule { self.new.rule ≡ self.old.rule }
-        ensures kilograms { AtEachPoint (tables self.old.rule.now) (plain self.old) (steps_of meaning (take result calls.now)) }
-        ensures history { AtEachPointFromTheStart (tables self.old.rule.now) (plain self.old) (steps_of meaning (take result calls.now)) }
-        ensures reached { ReachedByARun (tables self.old.rule.now) (plain self.old) → ReachedByARun (tables self.new.rule.now) (plain self.new) }
+        ensures kilograms { AtEachPoint (R.tables self.old.rule.now) (plain self.old) (steps_of S.meaning (take result calls.now)) }
+        ensures history { AtEachPointFromTheStart (R.tables self.old.rule.now) (plain self.old) (steps_of S.meaning (take result calls.now)) }
+        ensures reached { ReachedByARun (R.tables self.old.rule.now) (plain self.old) → ReachedByARun (R.tables self.new.rule.now) (plain self.new) }
     {
         let count = calls.len().min(answers.len());
         for i in 0..count {

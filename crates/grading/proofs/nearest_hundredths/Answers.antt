@@ -5,8 +5,8 @@ use Rattle.grading.proofs.Nearest.{is-nearest}
 use Rattle.grading.proofs.nearest_hundredths.Goals as goal
 
 -- a grade is at most 5, so the mean is at most 500 hundredths
-pub overflow-cast-result : goal.overflow-cast-result
-overflow-cast-result c =
+pub overflow_cast-result : goal.overflow_cast-result
+overflow_cast-result c =
     let t = c.args.total in
     let s = c.args.sum in
     let d = div_below (200 * s + t) (2 * t) 502 (omega arith) (omega arith) in
@@ -14,5 +14,5 @@ overflow-cast-result c =
 
 pub returns : goal.returns
 returns c =
-    let value : Some c.half-up.result ≡ nearest_hundredths c.args.sum c.args.total = search rules in
-    record { value = value; nearest = is-nearest c.args.sum c.args.total (Some c.half-up.result) value }
+    let value : Some c.half_up.result ≡ nearest_hundredths c.args.sum c.args.total = search rules in
+    record { value = value; nearest = is-nearest c.args.sum c.args.total (Some c.half_up.result) value }

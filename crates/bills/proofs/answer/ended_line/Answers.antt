@@ -3,5 +3,5 @@ use Rattle.bills.proofs.answer.ended_line.Goals as goal
 
 pub returns : goal.returns
 returns c =
-    c.in-ok-push.ensures.bytes
-    ∙ ap (λ l. string_bytes c.args.line ++ l) (c.in-ok-push.ensures.ascii (omega arith))
+    c.in_ok-push.ensures.bytes
+    ∙ ap (λ l. string_bytes c.args.line ++ l) (c.in_ok-push.ensures.ascii (omega arith))

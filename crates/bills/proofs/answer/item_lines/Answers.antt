@@ -11,7 +11,7 @@ loop-i-preserved c =
     let more = at_drop_more (item_lines (i + 1)) xs i (item_of 0 0 0) c.loop-i-test.true in
     let rest = item_lines (i + 1 + 1) (drop (i + 1) xs) in
     let text = string_bytes c.loop-i.text in
-    ap (λ t. t ++ rest) (c.in-ok-push-line.ensures ∙ ap (λ l. text ++ ended l) (c.as-str.ensures.value ∙ c.in-ok-line.ensures))
+    ap (λ t. t ++ rest) (c.in_ok-push_line.ensures ∙ ap (λ l. text ++ ended l) (c.as_str.ensures.value ∙ c.in_ok-line.ensures))
     ∙ append_assoc text _ rest ∙ ap (λ l. text ++ l) (sym more) ∙ c.loop-i.invariant
 
 pub returns : goal.returns

@@ -3,6 +3,6 @@ use Rattle.bills.proofs.answer.push_line.Goals as goal
 
 pub returns : goal.returns
 returns c =
-    c.in-ok-push.ensures.bytes
-    ∙ ap₂ ◌++◌ c.in-ok-push-str.ensures.bytes (c.in-ok-push.ensures.ascii (omega arith))
+    c.in_ok-push.ensures.bytes
+    ∙ ap₂ ◌++◌ c.in_ok-push_str.ensures.bytes (c.in_ok-push.ensures.ascii (omega arith))
     ∙ append_assoc (string_bytes c.args.text.now) c.args.line.now (10 ∷ [])

@@ -3,5 +3,5 @@ use Rattle.bills.proofs.answer.statement.Goals as goal
 
 pub returns : goal.returns
 returns c =
-    c.in-ok-push-str.ensures.bytes
-    ∙ ap₂ ◌++◌ c.in-ok-text.ensures (c.as-str.ensures.value ∙ c.in-ok-totals.ensures)
+    c.in_ok-push_str.ensures.bytes
+    ∙ ap₂ ◌++◌ c.in_ok-text.ensures (c.as_str.ensures.value ∙ c.in_ok-totals.ensures)

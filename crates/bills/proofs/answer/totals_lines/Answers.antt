@@ -10,6 +10,6 @@ pub returns : goal.returns
 returns c =
     let kilograms = decimal c.args.totals.kilograms in
     subst (λ (t : List ℕ). IfOk c.format.result (λ s. string_bytes s ≡ t))
-    (ap (λ g. codes "total: " ++ (kilograms ++ (codes " kg\nmean grade: " ++ (g ++ codes "\n")))) c.in-ok-grade.ensures
+    (ap (λ g. codes "total: " ++ (kilograms ++ (codes " kg\nmean grade: " ++ (g ++ codes "\n")))) c.in_ok-grade.ensures
     ∙ two-lines (codes "total: ") kilograms (codes " kg") (10 ∷ []) (codes "mean grade: ") (two_decimals c.args.totals.grade))
     c.format.ensures.ok

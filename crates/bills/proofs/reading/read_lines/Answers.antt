@@ -6,13 +6,13 @@ use Rattle.bills.proofs.reading.read_lines.Goals as goal
 pub loop-line-init : goal.loop-line-init
 loop-line-init c = sofar-none _ _ _ c.new-items.ensures.items c.new-lines.ensures.pieces
 
-pub returns-then-is-empty : goal.returns-then-is-empty
-returns-then-is-empty c =
-    sofar-last _ _ _ c.loop-line.invariant _ _ c.in-Some.ensures.step (left-none _ _ c.if-is-none.ensures) (sym c.if-is-empty.ensures)
+pub returns-then-is_empty : goal.returns-then-is_empty
+returns-then-is_empty c =
+    sofar-last _ _ _ c.loop-line.invariant _ _ c.in-Some.ensures.step (left-none _ _ c.if-is_none.ensures) (sym c.if-is_empty.ensures)
 
-pub returns-then-is-none : goal.returns-then-is-none
-returns-then-is-none c =
-    sofar-unended _ _ _ c.loop-line.invariant _ _ c.in-Some.ensures.step (left-none _ _ c.if-is-none.ensures) (sym c.if-is-empty.ensures)
+pub returns-then-is_none : goal.returns-then-is_none
+returns-then-is_none c =
+    sofar-unended _ _ _ c.loop-line.invariant _ _ c.in-Some.ensures.step (left-none _ _ c.if-is_none.ensures) (sym c.if-is_empty.ensures)
     ∙ ap (λ n. Err (Unended (n + 1))) (sym (c.len.ensures ∙ c.loop-line.items.ok.0))
 
 pub loop-line-smaller : goal.loop-line-smaller
@@ -20,12 +20,12 @@ loop-line-smaller c = let h = c.in-Some.ensures.step in omega (arith, ap length 
 
 pub loop-line-preserved : goal.loop-line-preserved
 loop-line-preserved c =
-    sofar-more _ _ _ c.loop-line.invariant _ _ c.in-Ok.item _ c.in-Some.ensures.step (left-some _ _ c.if-is-none.ensures) c.in-Ok.ensures c.in-ok-push.ensures.items
+    sofar-more _ _ _ c.loop-line.invariant _ _ c.in-Ok.item _ c.in-Some.ensures.step (left-some _ _ c.if-is_none.ensures) c.in-Ok.ensures c.in-ok-push.ensures.items
 
 pub returns-in-Err : goal.returns-in-Err
 returns-in-Err c =
-    sofar-wrong _ _ _ c.loop-line.invariant _ _ c.in-Err.error c.in-Some.ensures.step (left-some _ _ c.if-is-none.ensures) c.in-Err.ensures
+    sofar-wrong _ _ _ c.loop-line.invariant _ _ c.in-Err.error c.in-Some.ensures.step (left-some _ _ c.if-is_none.ensures) c.in-Err.ensures
     ∙ ap (λ n. Err (Line (n + 1) c.in-Err.error)) (sym (c.len-in-Err.ensures ∙ c.loop-line.items.ok.0))
 
 pub returns : goal.returns
-returns c = sofar-all _ _ _ c.loop-line.invariant c.in-default.ensures.step.0
+returns c = sofar-all _ _ _ c.loop-line.invariant c.in_default.ensures.step.0

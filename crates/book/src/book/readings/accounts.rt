@@ -29,7 +29,7 @@ fn no_accounts() -> [Option<InvesteeAccount>; MOST_INVESTEES]
 // An investee by its id, with its total.
 fn account<'r, R: Rule>(book: &Book<'r, R>, row: InvesteeRow) -> InvesteeAccount
     requires { WithinBook (plain book.now).positions (plain_investee row) }
-    ensures { result ≡ account_of (tables book.now.rule.now) (plain book.now) (plain_investee row) }
+    ensures { result ≡ account_of (R.tables book.now.rule.now) (plain book.now) (plain_investee row) }
 {
     InvesteeAccount {
         id: row.profile.id,
@@ -40,7 +40,7 @@ fn account<'r, R: Rule>(book: &Book<'r, R>, row: InvesteeRow) -> InvesteeAccount
 impl<'r, R: Rule> Book<'r, R> {
     // What falls to one branch for one investee.
     pub fn part(&self, id: u64, branch: u64) -> Result<Kilograms, Fault>
-        ensures { told Part result ≡ answer (tables self.now.rule.now) (plain self.now) (ask_part id branch) }
+        ensures { told Part result ≡ answer (R.tables self.now.rule.now) (plain self.now) (ask_part id branch) }
     {
         if branch_out_of_range(branch) {
             return Err(Fault::plain(Refusal::EntryOutOfRange));
@@ -53,7 +53,7 @@ impl<'r, R: Rule> Book<'r, R> {
 
     // What falls to all branches for one investee, the reason for which it is left out, or 0, and its grade.
     pub fn total(&self, id: u64) -> Result<InvesteeTotal, Fault>
-        ensures { told Total result ≡ answer (tables self.now.rule.now) (plain self.now) (ask_total id) }
+        ensures { told Total result ≡ answer (R.tables self.now.rule.now) (plain self.now) (ask_total id) }
     {
         match self.investee(id) {
             Some(row) => Ok(total_of(self, row)),
@@ -63,7 +63,7 @@ impl<'r, R: Rule> Book<'r, R> {
 
     // Every investee with its total, in the order of the openings, and None in the places after them.
     pub fn accounts(&self) -> [Option<InvesteeAccount>; MOST_INVESTEES]
-        ensures { result ≡ listed most_investees (accounts_of (tables self.now.rule.now) (plain self.now)) }
+        ensures { result ≡ listed most_investees (accounts_of (R.tables self.now.rule.now) (plain self.now)) }
     {
         let mut accounts = no_accounts();
         for (k, row) in self.investees.as_slice().iter().enumerate() {

@@ -49,7 +49,7 @@ fn if_any(any: bool, sheet: Kilograms) -> Option<Kilograms>
 fn add_parts<'r, R: Rule>(book: &Book<'r, R>, row: InvesteeRow, sums: &mut [Kilograms])
     requires row { WithinBook (plain book.now).positions (plain_investee row) }
     requires sums { RoomForParts sums.old }
-    ensures { WithParts (λ b. part_of (tables book.now.rule.now) (plain book.now) b (plain_investee row)) sums.old sums.new }
+    ensures { WithParts (λ b. part_of (R.tables book.now.rule.now) (plain book.now) b (plain_investee row)) sums.old sums.new }
 {
     let standing = standing_of(book, row);
     let turns = book.positions.turns(row.profile.kind, row.profile.id);
@@ -63,7 +63,7 @@ fn add_parts<'r, R: Rule>(book: &Book<'r, R>, row: InvesteeRow, sums: &mut [Kilo
 impl<'r, R: Rule> Book<'r, R> {
     // The parts of a branch, added up over all investees.
     fn sheet_of(&self, branch: u64) -> Kilograms
-        ensures { result ≡ sheet_of (tables self.now.rule.now) (plain self.now) branch }
+        ensures { result ≡ sheet_of (R.tables self.now.rule.now) (plain self.now) branch }
     {
         let mut sum = Kilograms {
             emissions: 0,
@@ -77,7 +77,7 @@ impl<'r, R: Rule> Book<'r, R> {
 
     // What falls to one branch for all investees.
     pub fn sheet(&self, branch: u64) -> Result<Kilograms, Fault>
-        ensures { told Sheet result ≡ answer (tables self.now.rule.now) (plain self.now) (ask_sheet branch) }
+        ensures { told Sheet result ≡ answer (R.tables self.now.rule.now) (plain self.now) (ask_sheet branch) }
     {
         if branch_out_of_range(branch) {
             return Err(Fault::plain(Refusal::EntryOutOfRange));
@@ -88,7 +88,7 @@ impl<'r, R: Rule> Book<'r, R> {
     // The parts of all branches, from branch 1 on, added up over all investees.
     fn all_sheets(&self) -> [Kilograms; SHEETS]
         ensures long { length result ≡ branch_count }
-        ensures sheets { (n : ℕ) → n < branch_count → slice_index_or result n no_kilograms ≡ sheet_of (tables self.now.rule.now) (plain self.now) (n + 1) }
+        ensures sheets { (n : ℕ) → n < branch_count → slice_index_or result n no_kilograms ≡ sheet_of (R.tables self.now.rule.now) (plain self.now) (n + 1) }
     {
         let mut sums = no_sums();
         for row in self.investees.as_slice() {
@@ -99,7 +99,7 @@ impl<'r, R: Rule> Book<'r, R> {
 
     // The sheets of all branches, from branch 1 on: None for a branch without a position.
     pub fn sheets(&self) -> [Option<Kilograms>; SHEETS]
-        ensures { result ≡ sheets_of (tables self.now.rule.now) (plain self.now) }
+        ensures { result ≡ sheets_of (R.tables self.now.rule.now) (plain self.now) }
     {
         let sums = self.all_sheets();
         let mut sheets = no_sheets();

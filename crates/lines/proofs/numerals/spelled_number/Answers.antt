@@ -4,5 +4,5 @@ use Rattle.lines.proofs.numerals.spelled_number.Goals as goal
 
 pub returns : goal.returns
 returns c =
-    let is = c.read-number.ensures in
+    let is = c.read_number.ensures in
     record { value = is; spells = λ n. (λ e. spells-from-number _ n (sym is ∙ e), λ h. is ∙ number-from-spells _ n h) }

@@ -7,13 +7,13 @@ pub returns-then-b-lt48 : goal.returns-then-b-lt48
 returns-then-b-lt48 c =
     stops c.args.field.now c.loop-b.b-index (omega arith) (λ h. elim c.then-b-lt48.branch [ then-b-lt48-via-then-b-lt48 w ↦ omega arith | then-b-lt48-via-else-b-lt48+then-b-gt57 w ↦ omega arith ])
 
-pub overflow-mul-n : goal.overflow-mul-n
-overflow-mul-n c =
+pub overflow_mul-n : goal.overflow_mul-n
+overflow_mul-n c =
     let r = room c.args.field.now c.loop-b.b-index c.loop-b.n (omega arith) (omega arith) c.loop-b.invariant.0 c.loop-b.invariant.1 in
     omega arith
 
-pub overflow-add-n : goal.overflow-add-n
-overflow-add-n c =
+pub overflow_add-n : goal.overflow_add-n
+overflow_add-n c =
     let r = room c.args.field.now c.loop-b.b-index c.loop-b.n (omega arith) (omega arith) c.loop-b.invariant.0 c.loop-b.invariant.1 in
     omega arith
 

@@ -5,8 +5,8 @@ use Rattle.std.proofs.lemmas.List.{at_drop_all}
 use Rattle.lines.proofs.NumberLines.{bytes_of, length-line, length-no-line}
 use Rattle.lines.proofs.writing.line_fits.Goals as goal
 
-pub returns-then-is-empty : goal.returns-then-is-empty
-returns-then-is-empty c = sym (ap (λ n. leb n c.args.room) (length-no-line c.args.numbers.now (eqb-true _ _ (sym c.if-is-empty.ensures))))
+pub returns-then-is_empty : goal.returns-then-is_empty
+returns-then-is_empty c = sym (ap (λ n. leb n c.args.room) (length-no-line c.args.numbers.now (eqb-true _ _ (sym c.if-is_empty.ensures))))
 
 pub returns-then-left-count : goal.returns-then-left-count
 returns-then-left-count c =

@@ -7,11 +7,11 @@ use Rattle.lines.proofs.Writes.{Left, left-all, left-room, over-over}
 use Rattle.lines.proofs.writing.spaced.Goals as goal
 
 pub copy-requires : goal.copy-requires
-copy-requires c = omega (arith, c.requires, length-no-line _ c.in-default.ensures.cases)
+copy-requires c = omega (arith, c.requires, length-no-line _ c.in_default.ensures.cases)
 
-pub returns-in-default : goal.returns-in-default
-returns-in-default c =
-    let same : number_line c.args.numbers.now ≡ 10 ∷ [] = ap number_line (nil_from_length _ c.in-default.ensures.cases) in
+pub returns-in_default : goal.returns-in_default
+returns-in_default c =
+    let same : number_line c.args.numbers.now ≡ 10 ∷ [] = ap number_line (nil_from_length _ c.in_default.ensures.cases) in
     record {
       place = c.copy.ensures.place ∙ ap (λ l. c.args.at + length l) (sym same);
       buffer = c.copy.ensures.buffer ∙ ap (over c.args.buffer.now c.args.at) (sym same);

@@ -5,8 +5,8 @@ use Rattle.operations.specs.declared.items.Item.{Item}
 use Rattle.operations.specs.Items.{item_of}
 use Rattle.operations.proofs.work.total.Goals as goal
 
-pub overflow-add-sum : goal.overflow-add-sum
-overflow-add-sum c =
+pub overflow_add-sum : goal.overflow_add-sum
+overflow_add-sum c =
     let xs = c.args.items.now in
     let i = c.loop-item.item-index in
     record { fits = omega (arith, sum_by_more (λ (x : Item). x.kilograms) xs i (item_of 0 0 0) c.loop-item-test.true, sum_by-take-le (λ (x : Item). x.kilograms) xs (i + 1)) }

@@ -9,5 +9,5 @@ returns g c =
       result = c.answered.ensures.result;
       buffer = c.answered.ensures.buffer;
       within = c.answered.ensures.within;
-      adds-up = page-adds-up (g.R.Rule.tables book.rule.now) (plain book);
+      adds_up = page-adds-up (g.R.Rule.tables book.rule.now) (plain book);
     }

@@ -7,5 +7,5 @@ pub returns : goal.returns
 returns c =
     record {
       value = refl;
-      bound = mul-le c.args.output c.args.mean most_output most_mean c.requires.output-within c.requires.mean-within;
+      bound = mul-le c.args.output c.args.mean most_output most_mean c.requires.output_within c.requires.mean_within;
     }

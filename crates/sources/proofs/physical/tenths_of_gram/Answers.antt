@@ -10,9 +10,9 @@ use Rattle.sources.specs.Bottoms.{in_range, tenths}
 none : Activity
 none = record { row = 0; quantity = 0 }
 
-pub overflow-add-sum : goal.overflow-add-sum
+pub overflow_add-sum : goal.overflow_add-sum
 unfolding none
-overflow-add-sum c =
+overflow_add-sum c =
     let term = get_or c.args.terms.now c.loop-i.i none in
     let small = tenths-le term c.in-Some.tenths (sym c.in-Some.ensures) in
     record { fits = omega arith }

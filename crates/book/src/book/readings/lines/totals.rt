@@ -19,7 +19,7 @@ use rules::rule::Rule;
 // What an investee adds to the book's totals.
 fn line<'r, R: Rule>(book: &Book<'r, R>, row: InvesteeRow) -> Line
     requires { WithinBook (plain book.now).positions (plain_investee row) }
-    ensures { result ≡ line_of (tables book.now.rule.now) (plain book.now) (plain_investee row) }
+    ensures { result ≡ line_of (R.tables book.now.rule.now) (plain book.now) (plain_investee row) }
 {
     let standing = standing_of(book, row);
     Line {
@@ -36,7 +36,7 @@ fn line<'r, R: Rule>(book: &Book<'r, R>, row: InvesteeRow) -> Line
 impl<'r, R: Rule> Book<'r, R> {
     // The lines of all investees, in the order of their openings. The rest of the table stays empty.
     fn lines(&self) -> [Line; MOST_INVESTEES]
-        ensures { take (vec_len self.now.investees) result ≡ map (line_of (tables self.now.rule.now) (plain self.now)) (plain self.now).investees }
+        ensures { take (vec_len self.now.investees) result ≡ map (line_of (R.tables self.now.rule.now) (plain self.now)) (plain self.now).investees }
     {
         let mut lines = no_lines();
         for (k, row) in self.investees.as_slice().iter().enumerate() {
@@ -48,7 +48,7 @@ impl<'r, R: Rule> Book<'r, R> {
     // What falls to all branches for all investees: for projects, for the rest and for all, with the shares of the
     // positions that this covers, and the mean grade.
     pub fn book_total(&self) -> BookTotal
-        ensures { BookAnswer result ≡ answer (tables self.now.rule.now) (plain self.now) ask_book_total }
+        ensures { BookAnswer result ≡ answer (R.tables self.now.rule.now) (plain self.now) ask_book_total }
     {
         let table = self.lines();
         total_from(&table[0..self.investees.len()])

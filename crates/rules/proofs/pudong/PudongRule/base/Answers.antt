@@ -4,6 +4,6 @@ use Rattle.rules.proofs.pudong.PudongRule.base.Goals as goal
 pub returns : goal.returns
 returns c =
     record {
-      value = c.divided-by.ensures;
-      figure = rw c.divided-by.ensures (pudong-divides c.args.kind c.args.figures);
+      value = c.divided_by.ensures;
+      figure = rw c.divided_by.ensures (pudong-divides c.args.kind c.args.figures);
     }

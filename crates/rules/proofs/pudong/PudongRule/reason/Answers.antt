@@ -4,6 +4,6 @@ use Rattle.rules.proofs.pudong.PudongRule.reason.Goals as goal
 pub returns : goal.returns
 returns c =
     record {
-      value = c.first-reason.ensures;
-      first = rw c.first-reason.ensures (pudong-first c.args.kind c.args.size c.args.days c.args.exposure c.args.closing);
+      value = c.first_reason.ensures;
+      first = rw c.first_reason.ensures (pudong-first c.args.kind c.args.size c.args.days c.args.exposure c.args.closing);
     }
