@@ -154,8 +154,8 @@ exposures-entered p id x qs ok found others P before own =
 within_limit : (t : Tables) (x : PlainInvestee) (qs : List PlainPosition) → too_much_lent t x qs ≡ None → exposure_to x qs ≤ most_exposure
 within_limit t x qs e = ltb-false most_exposure (exposure_to x qs) (refuse-none (ltb most_exposure (exposure_to x qs)) _ _ e).0
 
-is_open : (id : ℕ) (p : PlainBook) (x : PlainInvestee) → investee_of id p ≡ Some x → is_open id p ≡ true
-is_open id p x e = ap is_some e
+is-open : (id : ℕ) (p : PlainBook) (x : PlainInvestee) → investee_of id p ≡ Some x → is_open id p ≡ true
+is-open id p x e = ap is_some e
 
 kept-posted : (t : Tables) (p : PlainBook) (b id m v : ℕ) → KeptByEveryRun p → declined t p (post b id m v) ≡ None → KeptByEveryRun (changed p (post b id m v))
 kept-posted t p b id m v ok e =
@@ -171,7 +171,7 @@ kept-posted t p b id m v ok e =
       ids_differ = ok.ids_differ;
       positions_on_open_investees =
           all-amended b id m v (λ q. is_open q.id p ≡ true) (λ q h. h) qs
-          (all-with-position b id p.positions (λ q. is_open q.id p ≡ true) ok.positions_on_open_investees (is_open id p x entry.found));
+          (all-with-position b id p.positions (λ q. is_open q.id p ≡ true) ok.positions_on_open_investees (is-open id p x entry.found));
       positions_differ = differ-amended b id m v qs (differ-with-position b id p.positions ok.positions_differ);
       exposures_within_limit =
           exposures-entered p id x (posted b id m v p.positions) ok entry.found (λ j ne. others-posted b id m v j ne p.positions)

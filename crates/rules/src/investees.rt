@@ -16,7 +16,7 @@ pub const LAST_SECTOR: u64 = 8;
 pub const MOST_DAYS: u64 = 366;
 
 // The fields of an investee as a caller sends them: each number may be anything.
-#[derive(Clone, Copy)]
+#[derive(Clone, Copy, Debug, PartialEq, Eq)]
 pub struct InvesteeFields {
     pub id: u64,
     pub kind: u64,
@@ -27,7 +27,7 @@ pub struct InvesteeFields {
 }
 
 // An investee as `checked` makes it, with fields within their ranges. Its days are those that a project has run or a loan has been outstanding.
-#[derive(Clone, Copy)]
+#[derive(Clone, Copy, Debug, PartialEq, Eq)]
 pub struct Profile {
     pub id: u32,
     pub kind: Kind,

@@ -3,14 +3,14 @@ ghost use Rattle.std.specs.Prelude.{◌≡◌, Some};
 ghost use Rattle.rules.specs.Kinds.{kind_number, kind_numbered, size_number, size_numbered};
 
 // What the money is lent for, or how.
-#[derive(Clone, Copy)]
+#[derive(Clone, Copy, Debug, PartialEq, Eq)]
 pub enum Kind {
-    Project,
-    PropertyDevelopment,
-    PropertyPurchase,
-    Vehicle,
-    GeneralLoan,
-    Bond,
+    Project = 1,
+    PropertyDevelopment = 2,
+    PropertyPurchase = 3,
+    Vehicle = 4,
+    GeneralLoan = 5,
+    Bond = 6,
 }
 
 impl Kind {
@@ -19,14 +19,7 @@ impl Kind {
         ensures value { result ≡ kind_number self }
         ensures back { kind_numbered result ≡ Some self }
     {
-        match self {
-            Kind::Project => 1,
-            Kind::PropertyDevelopment => 2,
-            Kind::PropertyPurchase => 3,
-            Kind::Vehicle => 4,
-            Kind::GeneralLoan => 5,
-            Kind::Bond => 6,
-        }
+        self as u8
     }
 
     // The kind of a number from 1 to 6.
@@ -46,13 +39,13 @@ impl Kind {
 }
 
 // A person stands for household businesses too.
-#[derive(Clone, Copy)]
+#[derive(Clone, Copy, Debug, PartialEq, Eq)]
 pub enum Size {
-    Large,
-    Medium,
-    Small,
-    Micro,
-    Person,
+    Large = 1,
+    Medium = 2,
+    Small = 3,
+    Micro = 4,
+    Person = 5,
 }
 
 impl Size {
@@ -61,13 +54,7 @@ impl Size {
         ensures value { result ≡ size_number self }
         ensures back { size_numbered result ≡ Some self }
     {
-        match self {
-            Size::Large => 1,
-            Size::Medium => 2,
-            Size::Small => 3,
-            Size::Micro => 4,
-            Size::Person => 5,
-        }
+        self as u8
     }
 
     // The size of a number from 1 to 5.

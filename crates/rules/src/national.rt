@@ -11,7 +11,7 @@ use crate::rule::Rule;
 use faults::Refusal;
 
 // It covers projects and general loans.
-#[derive(Clone, Copy)]
+#[derive(Clone, Copy, Debug, PartialEq, Eq)]
 pub struct National;
 
 fn first_reason(kind: Kind, size: Size, days: u64, exposure: u64, closing: u64) -> u8

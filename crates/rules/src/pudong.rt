@@ -11,7 +11,7 @@ use crate::rule::Rule;
 use faults::Refusal;
 
 // It covers every kind.
-#[derive(Clone, Copy)]
+#[derive(Clone, Copy, Debug, PartialEq, Eq)]
 pub struct Pudong;
 
 fn divided_by(kind: Kind, figures: Figures) -> Result<Base, Refusal>

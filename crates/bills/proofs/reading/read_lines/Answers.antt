@@ -20,7 +20,7 @@ loop-line-smaller c = let h = c.in-Some.ensures.step in omega (arith, ap length 
 
 pub loop-line-preserved : goal.loop-line-preserved
 loop-line-preserved c =
-    sofar-more _ _ _ c.loop-line.invariant _ _ c.in-Ok.item _ c.in-Some.ensures.step (left-some _ _ c.if-is_none.ensures) c.in-Ok.ensures c.in-ok-push.ensures.items
+    sofar-more _ _ _ c.loop-line.invariant _ _ c.in-Ok.item _ c.in-Some.ensures.step (left-some _ _ c.if-is_none.ensures) c.in-Ok.ensures c.in_ok-push-in-Ok.ensures.items
 
 pub returns-in-Err : goal.returns-in-Err
 returns-in-Err c =
