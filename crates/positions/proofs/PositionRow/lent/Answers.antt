@@ -1,10 +1,10 @@
 use Rattle.std.proofs.Common.{◌≡◌, ◌+◌, ◌^◌, ◌<◌, ◌≤◌, length, take, Some, None, sum_by, unwrap_or, ap, ◌∙◌, arith, take_all, rules}
 use Rattle.std.proofs.lemmas.List.Sums.{sum_by_more}
 use Rattle.positions.proofs.PositionRow.lent.Goals as goal
-use Rattle.positions.proofs.PositionRow.lent.Goals.{in-Some, in-default}
+use Rattle.positions.proofs.PositionRow.lent.Goals.{in-Some, in_default}
 
-pub overflow-add-sum : goal.overflow-add-sum
-overflow-add-sum c = let f : c.in-Some.value < 2 ^ 32 = search rules in omega (arith, c.loop-balance.invariant.1, f)
+pub overflow_add-sum : goal.overflow_add-sum
+overflow_add-sum c = let f : c.in-Some.value < 2 ^ 32 = search rules in omega (arith, c.loop-balance.invariant.1, f)
 
 pub loop-balance-preserved : goal.loop-balance-preserved
 loop-balance-preserved c =
@@ -12,7 +12,7 @@ loop-balance-preserved c =
     let more = sum_by_more (λ m. unwrap_or m 0) c.args.self.balances c.loop-balance.balance-index None (omega (arith, n)) in
     elim c.match-balance.branch [
       | in-Some w ↦ let f : w.in-Some.value < 2 ^ 32 = search rules in let g = ap (λ m. unwrap_or m 0) w.in-Some.is in (omega (arith, w.sum-is, more, g, c.loop-balance.invariant.0), omega (arith, w.sum-is, f, c.loop-balance.invariant.1))
-      | in-default w ↦ let g = ap (λ m. unwrap_or m 0) w.in-default.is in (omega (arith, w.sum-is, more, g, c.loop-balance.invariant.0), omega (arith, w.sum-is, c.loop-balance.invariant.1))
+      | in_default w ↦ let g = ap (λ m. unwrap_or m 0) w.in_default.is in (omega (arith, w.sum-is, more, g, c.loop-balance.invariant.0), omega (arith, w.sum-is, c.loop-balance.invariant.1))
     ]
 
 pub returns : goal.returns

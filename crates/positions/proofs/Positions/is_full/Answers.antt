@@ -7,4 +7,4 @@ use Rattle.positions.proofs.Positions.is_full.Goals as goal
 pub returns : goal.returns
 returns c =
     let rows = c.args.self.now.rows in
-    c.full-of-positions.ensures ∙ ap (leb most_positions) (c.len.ensures ∙ rows.ok.0 ∙ sym (length-map (vec_items rows) plain_position))
+    c.full_of_positions.ensures ∙ ap (leb most_positions) (c.len.ensures ∙ rows.ok.0 ∙ sym (length-map (vec_items rows) plain_position))
