@@ -33,8 +33,8 @@ module _ (p : PlainBook) (id : ℕ) where
       ap (λ o. if_open o next) (first-nowhere (has_id id) p.investees none.0) ∙ ap Some none.1
 
   -- what follows does not ask which investee it is
-  pub is_open : (k : ℕ) (rest : Option Fault) → Ok k ≡ open_at (first_place (has_id id) p.investees) → if_open (investee_of id p) (λ x. rest) ≡ rest
-  is_open k rest e =
+  pub is-open : (k : ℕ) (rest : Option Fault) → Ok k ≡ open_at (first_place (has_id id) p.investees) → if_open (investee_of id p) (λ x. rest) ≡ rest
+  is-open k rest e =
       by (investee_of id p)
       (sym (found_alike (has_id id) p.investees) ∙ ap is_some (sym (open-some (first_place (has_id id) p.investees) k e)))
     where

@@ -1,8 +1,10 @@
 -- Which plain book a book stands for.
 use Rattle.std.specs.Prelude.{vec_items}
 use Rattle.plain.specs.PlainBook.{PlainBook}
+use Rattle.rules.specs.declared.rule.Rule.{Ghosts}
 use Rattle.book.specs.declared.book.Book.{Book}
 use Rattle.book.specs.Rows.{plain_rows}
 
-abbrev pub plain : {R : Type 0} → Book R → PlainBook
+-- under any rule
+abbrev pub plain : {R : Type 0} {rule : Ghosts R} → Book R rule → PlainBook
 plain b = plain_rows (vec_items b.investees) b.positions

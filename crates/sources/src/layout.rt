@@ -1,31 +1,31 @@
 // How a reading or a fault is printed.
-ghost use Rattle.std.specs.Prelude.{◌≡◌, IfOk, Ok, Err, string_bytes};
-ghost use Rattle.sources.specs.Layout.{line_of};
+ghost use Rattle.std.specs.Prelude.{◌≡◌, IfOk, string_bytes};
+ghost use Rattle.sources.specs.Layout.{outcome_text, line_of};
 
 use crate::reading::Reading;
 use faults::Fault;
 use std::alloc::{AllocError, Global};
 
-// A line such as `report: 1000 kg, grade 1`.
-fn reading_line(heap: Global, label: &str, reading: Reading) -> Result<String, AllocError>
-    ensures { IfOk result (λ s. string_bytes s ≡ line_of label.now (Ok reading)) }
+// A reading or a fault, such as `1000 kg, grade 1` or `refusal 1, place 2, source 2`.
+fn outcome_text(heap: Global, outcome: Result<Reading, Fault>) -> Result<String, AllocError>
+    ensures { IfOk result (λ s. string_bytes s ≡ outcome_text outcome) }
 {
-    let kilograms = reading.kilograms;
-    let grade = reading.grade;
-    format!(in heap; "{label}: {kilograms} kg, grade {grade}")
+    match outcome {
+        Ok(reading) => {
+            let kilograms = reading.kilograms;
+            let grade = reading.grade;
+            format!(in heap; "{kilograms} kg, grade {grade}")
+        }
+        Err(fault) => {
+            let refusal = fault.refusal.number();
+            let place = fault.place;
+            let source = fault.source;
+            format!(in heap; "refusal {refusal}, place {place}, source {source}")
+        }
+    }
 }
 
-// A line such as `bill: refusal 1, place 2, source 2`.
-fn fault_line(heap: Global, label: &str, fault: Fault) -> Result<String, AllocError>
-    ensures { IfOk result (λ s. string_bytes s ≡ line_of label.now (Err fault)) }
-{
-    let refusal = fault.refusal.number();
-    let place = fault.place;
-    let source = fault.source;
-    format!(in heap; "{label}: refusal {refusal}, place {place}, source {source}")
-}
-
-// The line of a reading or of a fault.
+// A line such as `report: 1000 kg, grade 1` or `bill: refusal 1, place 2, source 2`.
 pub fn line(
     heap: Global,
     label: &str,
@@ -33,8 +33,6 @@ pub fn line(
 ) -> Result<String, AllocError>
     ensures { IfOk result (λ s. string_bytes s ≡ line_of label.now outcome) }
 {
-    match outcome {
-        Ok(reading) => reading_line(heap, label, reading),
-        Err(fault) => fault_line(heap, label, fault),
-    }
+    let text = outcome_text(heap, outcome)?;
+    format!(in heap; "{label}: {text}")
 }

@@ -13,34 +13,34 @@ use Rattle.book.proofs.Sheets.{row_part, parts-sofar-within, sheet-rows}
 use Rattle.book.proofs.WithinBook.{rows-within}
 use Rattle.book.proofs.book.Book.all_sheets.Goals as goal
 
-pub add-parts-requires : goal.add-parts-requires
-add-parts-requires g c =
+pub add_parts-requires : goal.add_parts-requires
+add_parts-requires g c =
     let book = c.args.self.now in
     let t = g.R.Rule.tables book.rule.now in
-    let read = c.as-slice-row-items.result.now in
+    let read = c.as_slice-row-items.result.now in
     let k = c.loop-row.row-index in
-    let all = rows-within (vec_items book.investees) book.positions book.kept read c.as-slice-row-items.ensures.value in
+    let all = rows-within (vec_items book.investees) book.positions book.kept read c.as_slice-row-items.ensures.value in
     record {
       row = All-get_or (λ row. WithinBook (positions_in book.positions) (plain_investee row)) read k _ c.loop-row-test.true all;
       sums = record {
         long = c.loop-row.invariant.0;
-        within_limit = λ n h. parts-sofar-within t (plain book) (n + 1) read all k c.loop-row-test.true most_investees (get_or c.loop-row.sums n no_kilograms) (omega (arith, c.as-slice-row-items.ensures.len, book.room.0)) (c.loop-row.invariant.1 n h);
+        within_limit = λ n h. parts-sofar-within t (plain book) (n + 1) read all k c.loop-row-test.true most_investees (get_or c.loop-row.sums n no_kilograms) (omega (arith, c.as_slice-row-items.ensures.len, book.room.0)) (c.loop-row.invariant.1 n h);
       };
     }
 
 pub loop-row-init : goal.loop-row-init
 loop-row-init g c = (
-  ap length c.no-sums-sums.ensures,
-  λ n h. ap (λ l. get_or l n no_kilograms) c.no-sums-sums.ensures ∙ get_or-replicate branch_count n no_kilograms no_kilograms h ∙ summed-none _,
+  ap length c.no_sums-sums.ensures,
+  λ n h. ap (λ l. get_or l n no_kilograms) c.no_sums-sums.ensures ∙ get_or-replicate branch_count n no_kilograms no_kilograms h ∙ summed-none _,
 )
 
 pub loop-row-preserved : goal.loop-row-preserved
 loop-row-preserved g c =
     let book = c.args.self.now in
     let t = g.R.Rule.tables book.rule.now in (
-      c.add-parts.ensures.long,
-      λ n h. c.add-parts.ensures.has_part n h
-          ∙ summed-more (row_part t (plain book) (n + 1)) c.as-slice-row-items.result.now c.loop-row.row-index _ c.loop-row-test.true (get_or c.loop-row.sums n no_kilograms) _ (c.loop-row.invariant.1 n h) refl,
+      c.add_parts.ensures.long,
+      λ n h. c.add_parts.ensures.has_part n h
+          ∙ summed-more (row_part t (plain book) (n + 1)) c.as_slice-row-items.result.now c.loop-row.row-index _ c.loop-row-test.true (get_or c.loop-row.sums n no_kilograms) _ (c.loop-row.invariant.1 n h) refl,
     )
 
 pub returns : goal.returns
@@ -50,6 +50,6 @@ returns g c =
     record {
       long = c.loop-row.invariant.0;
       sheets = λ n h. c.loop-row.invariant.1 n h
-          ∙ ap (summed (row_part t (plain book) (n + 1))) (take_all c.loop-row.row-index c.as-slice-row-items.result.now c.loop-row-test.false ∙ c.as-slice-row-items.ensures.value)
+          ∙ ap (summed (row_part t (plain book) (n + 1))) (take_all c.loop-row.row-index c.as_slice-row-items.result.now c.loop-row-test.false ∙ c.as_slice-row-items.ensures.value)
           ∙ sheet-rows t (vec_items book.investees) book.positions (n + 1);
     }

@@ -14,7 +14,7 @@ returns-in-Open g c =
     record {
       book = c.open.ensures.book ∙ ap (λ k. after t p (step_of g.S.Source.meaning k)) same;
       rule = c.open.ensures.rule;
-      told = c.done-answer.ensures ∙ c.open.ensures.told ∙ ap (λ k. answer t p (step_of g.S.Source.meaning k)) same;
+      told = c.done_answer.ensures ∙ c.open.ensures.told ∙ ap (λ k. answer t p (step_of g.S.Source.meaning k)) same;
     }
 
 pub returns-in-Restate : goal.returns-in-Restate
@@ -25,7 +25,7 @@ returns-in-Restate g c =
     record {
       book = c.restate.ensures.book ∙ ap (λ k. after t p (step_of g.S.Source.meaning k)) same;
       rule = c.restate.ensures.rule;
-      told = c.done-answer-in-Restate.ensures ∙ c.restate.ensures.told ∙ ap (λ k. answer t p (step_of g.S.Source.meaning k)) same;
+      told = c.done_answer-in-Restate.ensures ∙ c.restate.ensures.told ∙ ap (λ k. answer t p (step_of g.S.Source.meaning k)) same;
     }
 
 pub returns-in-Reduce : goal.returns-in-Reduce
@@ -36,7 +36,7 @@ returns-in-Reduce g c =
     record {
       book = c.reduce.ensures.book ∙ ap (λ k. after t p (step_of g.S.Source.meaning k)) same;
       rule = c.reduce.ensures.rule;
-      told = c.done-answer-in-Reduce.ensures ∙ c.reduce.ensures.told ∙ ap (λ k. answer t p (step_of g.S.Source.meaning k)) same;
+      told = c.done_answer-in-Reduce.ensures ∙ c.reduce.ensures.told ∙ ap (λ k. answer t p (step_of g.S.Source.meaning k)) same;
     }
 
 pub returns-in-Post : goal.returns-in-Post
@@ -47,7 +47,7 @@ returns-in-Post g c =
     record {
       book = c.post.ensures.book ∙ ap (λ k. after t p (step_of g.S.Source.meaning k)) same;
       rule = c.post.ensures.rule;
-      told = c.done-answer-in-Post.ensures ∙ c.post.ensures.told ∙ ap (λ k. answer t p (step_of g.S.Source.meaning k)) same;
+      told = c.done_answer-in-Post.ensures ∙ c.post.ensures.told ∙ ap (λ k. answer t p (step_of g.S.Source.meaning k)) same;
     }
 
 pub returns-in-Amend : goal.returns-in-Amend
@@ -58,7 +58,7 @@ returns-in-Amend g c =
     record {
       book = c.amend.ensures.book ∙ ap (λ k. after t p (step_of g.S.Source.meaning k)) same;
       rule = c.amend.ensures.rule;
-      told = c.done-answer-in-Amend.ensures ∙ c.amend.ensures.told ∙ ap (λ k. answer t p (step_of g.S.Source.meaning k)) same;
+      told = c.done_answer-in-Amend.ensures ∙ c.amend.ensures.told ∙ ap (λ k. answer t p (step_of g.S.Source.meaning k)) same;
     }
 
 pub returns-in-Part : goal.returns-in-Part
@@ -69,7 +69,7 @@ returns-in-Part g c =
     record {
       book = sym (nothing-changed t p (ask_part c.in-Part.id c.in-Part.branch) refl) ∙ ap (λ k. after t p (step_of g.S.Source.meaning k)) same;
       rule = refl {a = c.args.self.now.rule};
-      told = c.part-answer.ensures ∙ c.part.ensures ∙ ap (λ k. answer t p (step_of g.S.Source.meaning k)) same;
+      told = c.part_answer.ensures ∙ c.part.ensures ∙ ap (λ k. answer t p (step_of g.S.Source.meaning k)) same;
     }
 
 pub returns-in-Total : goal.returns-in-Total
@@ -80,7 +80,7 @@ returns-in-Total g c =
     record {
       book = sym (nothing-changed t p (ask_total c.in-Total.id) refl) ∙ ap (λ k. after t p (step_of g.S.Source.meaning k)) same;
       rule = refl {a = c.args.self.now.rule};
-      told = c.total-answer.ensures ∙ c.total.ensures ∙ ap (λ k. answer t p (step_of g.S.Source.meaning k)) same;
+      told = c.total_answer.ensures ∙ c.total.ensures ∙ ap (λ k. answer t p (step_of g.S.Source.meaning k)) same;
     }
 
 pub returns-in-Sheet : goal.returns-in-Sheet
@@ -91,7 +91,7 @@ returns-in-Sheet g c =
     record {
       book = sym (nothing-changed t p (ask_sheet c.in-Sheet.branch) refl) ∙ ap (λ k. after t p (step_of g.S.Source.meaning k)) same;
       rule = refl {a = c.args.self.now.rule};
-      told = c.sheet-answer.ensures ∙ c.sheet.ensures ∙ ap (λ k. answer t p (step_of g.S.Source.meaning k)) same;
+      told = c.sheet_answer.ensures ∙ c.sheet.ensures ∙ ap (λ k. answer t p (step_of g.S.Source.meaning k)) same;
     }
 
 pub returns-in-BookTotal : goal.returns-in-BookTotal

@@ -7,4 +7,4 @@ use Rattle.book.proofs.book.Book.is_full.Goals as goal
 pub returns : goal.returns
 returns g c =
     let investees = c.args.self.now.investees in
-    c.full-of-investees.ensures ∙ ap (leb most_investees) (c.len.ensures ∙ investees.ok.0 ∙ sym (length-map (vec_items investees) plain_investee))
+    c.full_of_investees.ensures ∙ ap (leb most_investees) (c.len.ensures ∙ investees.ok.0 ∙ sym (length-map (vec_items investees) plain_investee))

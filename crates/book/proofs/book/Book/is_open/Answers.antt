@@ -8,4 +8,4 @@ found-as-plain None = refl
 found-as-plain (Some x) = refl
 
 pub returns : goal.returns
-returns g c = c.is-some.ensures ∙ found-as-plain c.investee.result ∙ ap is_some c.investee.ensures
+returns g c = c.is_some.ensures ∙ found-as-plain c.investee.result ∙ ap is_some c.investee.ensures

@@ -9,63 +9,64 @@ use Rattle.book.proofs.Outcomes.{after-declined, answer-accepted, told-declined,
 use Rattle.book.proofs.Openings.{Entered, entered, not_taken, not-read, opened_rows}
 use Rattle.book.proofs.book.Book.open.Given as given
 use Rattle.book.proofs.book.Book.open.Goals as goal
-use Rattle.book.proofs.book.Book.open.Goals.{After-opened, After-push-reserved}
+use Rattle.book.proofs.book.Book.open.Goals.{After-opened, After-push_reserved}
 
-accepted : (g : given.Over) (c : After-opened g) → Entered (g.R.Rule.tables c.args.self.now.rule.now) (plain c.args.self.now) c.args.fields (g.S.Source.meaning c.args.source.now) c.in-ok-profile.profile c.in-ok-reading.reading
-accepted g c = entered _ _ _ _ _ _ c.in-ok-profile.ensures c.in-ok-reading.ensures
+accepted : (g : given.Over) (c : After-opened g) → Entered (g.R.Rule.tables c.args.self.now.rule.now) (plain c.args.self.now) c.args.fields (g.S.Source.meaning c.args.source.now) c.in_ok-profile.profile c.in_ok-reading.reading
+accepted g c = entered _ _ _ _ _ _ c.in_ok-profile.ensures c.in_ok-reading.ensures
 
-pub push-reserved-requires : goal.push-reserved-requires
-push-reserved-requires g c =
+pub push_reserved-requires : goal.push_reserved-requires
+push_reserved-requires g c =
     let book = c.args.self.now in
     omega (arith, (accepted g c).room, length-map (vec_items book.investees) plain_investee, book.investees.ok.0, book.room.1)
 
 -- the book is that after the call
-is-after : (g : given.Over) (c : After-push-reserved g) → plain_rows (vec_items c.push-reserved.new.self) c.args.self.now.positions ≡ after (g.R.Rule.tables c.args.self.now.rule.now) (plain c.args.self.now) (enter c.args.fields (g.S.Source.meaning c.args.source.now))
+is-after : (g : given.Over) (c : After-push_reserved g) → plain_rows (vec_items c.push_reserved.new.self) c.args.self.now.positions ≡ after (g.R.Rule.tables c.args.self.now.rule.now) (plain c.args.self.now) (enter c.args.fields (g.S.Source.meaning c.args.source.now))
 is-after g c =
-    let a = accepted g (goal.at.invariant-of-self g c).After-opened in
+    let a = accepted g (goal.at.invariant_of-self g c).After-opened in
     let book = c.args.self.now in
-    opened_rows (g.R.Rule.tables book.rule.now) (vec_items book.investees) (vec_items c.push-reserved.new.self) book.positions c.args.fields (g.S.Source.meaning c.args.source.now) c.in-ok-profile.profile c.in-ok-reading.reading c.opened.result a c.push-reserved.ensures.items c.opened.ensures
+    opened_rows (g.R.Rule.tables book.rule.now) (vec_items book.investees) (vec_items c.push_reserved.new.self) book.positions c.args.fields (g.S.Source.meaning c.args.source.now) c.in_ok-profile.profile c.in_ok-reading.reading c.opened.result a c.push_reserved.ensures.items c.opened.ensures
 
-pub invariant-of-self : goal.invariant-of-self
-invariant-of-self g c =
+pub invariant_of-self : goal.invariant_of-self
+invariant_of-self g c =
     let book = c.args.self.now in
-    let a = accepted g (goal.at.invariant-of-self g c).After-opened in (
-      (omega (arith, c.push-reserved.ensures.len, a.room, length-map (vec_items book.investees) plain_investee, book.investees.ok.0), omega (arith, c.push-reserved.ensures.capacity, book.room.1)),
-      (kept-after (g.R.Rule.tables book.rule.now) (plain book) _ (enter c.args.fields (g.S.Source.meaning c.args.source.now)) (g.S.Source.within c.args.source.now) book.kept (is-after g c), tt),
-    )
+    let a = accepted g (goal.at.invariant_of-self g c).After-opened in
+    record {
+      room = (omega (arith, c.push_reserved.ensures.len, a.room, length-map (vec_items book.investees) plain_investee, book.investees.ok.0), omega (arith, c.push_reserved.ensures.capacity, book.room.1));
+      kept = kept-after (g.R.Rule.tables book.rule.now) (plain book) _ (enter c.args.fields (g.S.Source.meaning c.args.source.now)) (g.S.Source.within c.args.source.now) book.kept (is-after g c);
+    }
 
 pub returns : goal.returns
 returns g c =
     let book = c.args.self.now in
     let a = accepted g (goal.at.returns g c).After-opened in
     record {
-      book = is-after g (goal.at.returns g c).After-push-reserved;
+      book = is-after g (goal.at.returns g c).After-push_reserved;
       rule = refl {a = c.args.self.now.rule};
       told = sym (answer-accepted (g.R.Rule.tables book.rule.now) (plain book) (enter c.args.fields (g.S.Source.meaning c.args.source.now)) a.accepted);
     }
 
-pub returns-in-err-profile : goal.returns-in-err-profile
-returns-in-err-profile g c =
+pub returns-in_err-profile : goal.returns-in_err-profile
+returns-in_err-profile g c =
     let t = g.R.Rule.tables c.args.self.now.rule.now in
     let p = plain c.args.self.now in
     let call = enter c.args.fields (g.S.Source.meaning c.args.source.now) in
-    let f = c.in-err-profile.field-0.0 in
-    let d = not_taken t p c.args.fields (g.S.Source.meaning c.args.source.now) f c.in-err-profile.ensures in
+    let f = c.in_err-profile.field-0.0 in
+    let d = not_taken t p c.args.fields (g.S.Source.meaning c.args.source.now) f c.in_err-profile.ensures in
     record {
       book = sym (after-declined t p call f d);
       rule = refl {a = c.args.self.now.rule};
-      told = told-declined t p call _ f (passed_on _ f c.from-residual.ensures.1) d;
+      told = told-declined t p call _ f (passed_on _ f c.from_residual.ensures.1) d;
     }
 
-pub returns-in-err-reading : goal.returns-in-err-reading
-returns-in-err-reading g c =
+pub returns-in_err-reading : goal.returns-in_err-reading
+returns-in_err-reading g c =
     let t = g.R.Rule.tables c.args.self.now.rule.now in
     let p = plain c.args.self.now in
     let call = enter c.args.fields (g.S.Source.meaning c.args.source.now) in
-    let f = c.in-err-reading.field-0.0 in
-    let d = not-read t p c.args.fields (g.S.Source.meaning c.args.source.now) c.in-ok-profile.profile f c.in-ok-profile.ensures c.in-err-reading.ensures in
+    let f = c.in_err-reading.field-0.0 in
+    let d = not-read t p c.args.fields (g.S.Source.meaning c.args.source.now) c.in_ok-profile.profile f c.in_ok-profile.ensures c.in_err-reading.ensures in
     record {
       book = sym (after-declined t p call f d);
       rule = refl {a = c.args.self.now.rule};
-      told = told-declined t p call _ f (passed_on _ f c.from-residual-in-err-reading.ensures.1) d;
+      told = told-declined t p call _ f (passed_on _ f c.from_residual-in_err-reading.ensures.1) d;
     }

@@ -5,7 +5,7 @@ use Rattle.book.proofs.Propositions.{kept_of}
 use Rattle.book.proofs.WithinBook.{within-book}
 use Rattle.book.proofs.book.Book.part.Goals as goal
 
-pub part-of-requires : goal.part-of-requires
-part-of-requires g c =
+pub part_of-requires : goal.part_of-requires
+part_of-requires g c =
     let book = c.args.self.now in
     within-book (plain book) (kept_of (plain book) book.kept) c.args.id (plain_investee c.in-Some.row) (sym c.in-Some.ensures)

@@ -7,16 +7,16 @@ use Rattle.book.proofs.book.Book.place.Goals as goal
 
 pub loop-k-preserved : goal.loop-k-preserved
 loop-k-preserved g c =
-    walk-on plain_investee (has_id c.args.id) c.as-slice-rows.result.now c.loop-k.k _ c.loop-k-test.true
-    (sym c.has-id.ensures ∙ c.if-has-id.false) c.loop-k.invariant
+    walk-on plain_investee (has_id c.args.id) c.as_slice-rows.result.now c.loop-k.k _ c.loop-k-test.true
+    (sym c.has_id.ensures ∙ c.if-has_id.false) c.loop-k.invariant
 
 pub returns : goal.returns
 returns g c =
-    walk_ends plain_investee (has_id c.args.id) c.as-slice-rows.result.now c.loop-k.k c.loop-k-test.false c.loop-k.invariant
-    ∙ ap (λ l. first_place (has_id c.args.id) (plain_investees l)) c.as-slice-rows.ensures.value
+    walk_ends plain_investee (has_id c.args.id) c.as_slice-rows.result.now c.loop-k.k c.loop-k-test.false c.loop-k.invariant
+    ∙ ap (λ l. first_place (has_id c.args.id) (plain_investees l)) c.as_slice-rows.ensures.value
 
-pub returns-then-has-id : goal.returns-then-has-id
-returns-then-has-id g c =
-    walk-finds plain_investee (has_id c.args.id) c.as-slice-rows.result.now c.loop-k.k _ c.loop-k-test.true
-    (sym c.has-id.ensures ∙ c.if-has-id.true) c.loop-k.invariant
-    ∙ ap (λ l. first_place (has_id c.args.id) (plain_investees l)) c.as-slice-rows.ensures.value
+pub returns-then-has_id : goal.returns-then-has_id
+returns-then-has_id g c =
+    walk-finds plain_investee (has_id c.args.id) c.as_slice-rows.result.now c.loop-k.k _ c.loop-k-test.true
+    (sym c.has_id.ensures ∙ c.if-has_id.true) c.loop-k.invariant
+    ∙ ap (λ l. first_place (has_id c.args.id) (plain_investees l)) c.as_slice-rows.ensures.value

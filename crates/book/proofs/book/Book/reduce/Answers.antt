@@ -8,71 +8,71 @@ use Rattle.book.specs.Rows.{plain_rows}
 use Rattle.book.specs.View.{plain}
 use Rattle.book.proofs.Books.{kept-after}
 use Rattle.book.proofs.Outcomes.{after-declined, after-accepted, answer-accepted, told-declined, passed_on}
-use Rattle.book.proofs.Restating.{not-open, is_open, open-within, reread}
+use Rattle.book.proofs.Restating.{not-open, is-open, open-within, reread}
 use Rattle.book.proofs.book.Book.reduce.Given as given
 use Rattle.book.proofs.book.Book.reduce.Goals as goal
-use Rattle.book.proofs.book.Book.reduce.Goals.{After-reduced-by}
+use Rattle.book.proofs.book.Book.reduce.Goals.{After-reduced_by}
 
-pub returns-in-err-at : goal.returns-in-err-at
-returns-in-err-at g c =
+pub returns-in_err-at : goal.returns-in_err-at
+returns-in_err-at g c =
     let t = g.R.Rule.tables c.args.self.now.rule.now in
     let p = plain c.args.self.now in
     let call = reduce c.args.id (g.S.Source.meaning c.args.source.now) in
-    let f = c.in-err-at.field-0.0 in
-    let d = not-open p c.args.id f (λ x. if_read (g.S.Source.meaning c.args.source.now) (λ r. None)) c.in-err-at.ensures in
+    let f = c.in_err-at.field-0.0 in
+    let d = not-open p c.args.id f (λ x. if_read (g.S.Source.meaning c.args.source.now) (λ r. None)) c.in_err-at.ensures in
     record {
       book = sym (after-declined t p call f d);
       rule = refl {a = c.args.self.now.rule};
-      told = told-declined t p call _ f (passed_on _ f c.from-residual.ensures.1) d;
+      told = told-declined t p call _ f (passed_on _ f c.from_residual.ensures.1) d;
     }
 
-pub returns-in-err-reading : goal.returns-in-err-reading
-returns-in-err-reading g c =
+pub returns-in_err-reading : goal.returns-in_err-reading
+returns-in_err-reading g c =
     let t = g.R.Rule.tables c.args.self.now.rule.now in
     let p = plain c.args.self.now in
     let m = g.S.Source.meaning c.args.source.now in
-    let f = c.in-err-reading.field-0.0 in
-    let d = is_open p c.args.id c.in-ok-at.at (if_read m (λ r. None)) c.in-ok-at.ensures ∙ ap (λ n. if_read n (λ r. None)) (sym c.in-err-reading.ensures) in
+    let f = c.in_err-reading.field-0.0 in
+    let d = is-open p c.args.id c.in_ok-at.at (if_read m (λ r. None)) c.in_ok-at.ensures ∙ ap (λ n. if_read n (λ r. None)) (sym c.in_err-reading.ensures) in
     record {
       book = sym (after-declined t p (reduce c.args.id m) f d);
       rule = refl {a = c.args.self.now.rule};
-      told = told-declined t p (reduce c.args.id m) _ f (passed_on _ f c.from-residual-in-err-reading.ensures.1) d;
+      told = told-declined t p (reduce c.args.id m) _ f (passed_on _ f c.from_residual-in_err-reading.ensures.1) d;
     }
 
 pub index-row-requires : goal.index-row-requires
 index-row-requires g c =
     let investees = c.args.self.now.investees in
-    omega (arith, open-within (vec_items investees) c.args.id c.in-ok-at.at c.in-ok-at.ensures, investees.ok.0)
+    omega (arith, open-within (vec_items investees) c.args.id c.in_ok-at.at c.in_ok-at.ensures, investees.ok.0)
 
-pub index-mut-requires : goal.index-mut-requires
-index-mut-requires g c =
+pub index_mut-requires : goal.index_mut-requires
+index_mut-requires g c =
     let investees = c.args.self.now.investees in
-    omega (arith, open-within (vec_items investees) c.args.id c.in-ok-at.at c.in-ok-at.ensures, investees.ok.0)
+    omega (arith, open-within (vec_items investees) c.args.id c.in_ok-at.at c.in_ok-at.ensures, investees.ok.0)
 
-accepted : (g : given.Over) (c : After-reduced-by g) → declined (g.R.Rule.tables c.args.self.now.rule.now) (plain c.args.self.now) (reduce c.args.id (g.S.Source.meaning c.args.source.now)) ≡ None
+accepted : (g : given.Over) (c : After-reduced_by g) → declined (g.R.Rule.tables c.args.self.now.rule.now) (plain c.args.self.now) (reduce c.args.id (g.S.Source.meaning c.args.source.now)) ≡ None
 accepted g c =
     let m = g.S.Source.meaning c.args.source.now in
-    is_open (plain c.args.self.now) c.args.id c.in-ok-at.at (if_read m (λ r. None)) c.in-ok-at.ensures ∙ ap (λ n. if_read n (λ r. None)) (sym c.in-ok-reading.ensures)
+    is-open (plain c.args.self.now) c.args.id c.in_ok-at.at (if_read m (λ r. None)) c.in_ok-at.ensures ∙ ap (λ n. if_read n (λ r. None)) (sym c.in_ok-reading.ensures)
 
 -- the book is that after the call
-is-after : (g : given.Over) (c : After-reduced-by g) → plain_rows (set (vec_items c.args.self.now.investees) c.in-ok-at.at c.reduced-by.result) c.args.self.now.positions ≡ after (g.R.Rule.tables c.args.self.now.rule.now) (plain c.args.self.now) (reduce c.args.id (g.S.Source.meaning c.args.source.now))
+is-after : (g : given.Over) (c : After-reduced_by g) → plain_rows (set (vec_items c.args.self.now.investees) c.in_ok-at.at c.reduced_by.result) c.args.self.now.positions ≡ after (g.R.Rule.tables c.args.self.now.rule.now) (plain c.args.self.now) (reduce c.args.id (g.S.Source.meaning c.args.source.now))
 is-after g c =
     let t = g.R.Rule.tables c.args.self.now.rule.now in
     let p = plain c.args.self.now in
     let m = g.S.Source.meaning c.args.source.now in
-    ap (λ xs. with_investees p xs) (reread (vec_items c.args.self.now.investees) c.args.id c.in-ok-at.at c.in-ok-at.ensures reduced_by m c.in-ok-reading.reading c.index-row.result.now c.reduced-by.result (sym c.in-ok-reading.ensures) c.index-row.ensures c.reduced-by.ensures)
+    ap (λ xs. with_investees p xs) (reread (vec_items c.args.self.now.investees) c.args.id c.in_ok-at.at c.in_ok-at.ensures reduced_by m c.in_ok-reading.reading c.index-row.result.now c.reduced_by.result (sym c.in_ok-reading.ensures) c.index-row.ensures c.reduced_by.ensures)
     ∙ sym (after-accepted t p (reduce c.args.id m) (accepted g c))
 
-pub invariant-of-self : goal.invariant-of-self
-invariant-of-self g c =
+pub invariant_of-self : goal.invariant_of-self
+invariant_of-self g c =
     let book = c.args.self.now in
-    (book.room, (kept-after (g.R.Rule.tables book.rule.now) (plain book) _ (reduce c.args.id (g.S.Source.meaning c.args.source.now)) (g.S.Source.within c.args.source.now) book.kept (is-after g (goal.at.invariant-of-self g c).After-reduced-by), tt))
+    record { room = book.room; kept = kept-after (g.R.Rule.tables book.rule.now) (plain book) _ (reduce c.args.id (g.S.Source.meaning c.args.source.now)) (g.S.Source.within c.args.source.now) book.kept (is-after g (goal.at.invariant_of-self g c).After-reduced_by) }
 
 pub returns : goal.returns
 returns g c =
     let t = g.R.Rule.tables c.args.self.now.rule.now in
     let p = plain c.args.self.now in
-    let a = (goal.at.returns g c).After-reduced-by in
+    let a = (goal.at.returns g c).After-reduced_by in
     record {
       book = is-after g a;
       rule = refl {a = c.args.self.now.rule};

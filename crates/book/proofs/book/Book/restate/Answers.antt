@@ -9,65 +9,65 @@ use Rattle.book.specs.View.{plain}
 use Rattle.book.proofs.Books.{kept-after}
 use Rattle.book.proofs.Outcomes.{after-declined, after-accepted, answer-accepted, told-declined, passed_on}
 use Rattle.book.proofs.Openings.{emissions-err, emissions-ok}
-use Rattle.book.proofs.Restating.{not-open, is_open, open-within, reread}
+use Rattle.book.proofs.Restating.{not-open, is-open, open-within, reread}
 use Rattle.book.proofs.book.Book.restate.Given as given
 use Rattle.book.proofs.book.Book.restate.Goals as goal
 use Rattle.book.proofs.book.Book.restate.Goals.{After-restated}
 
-pub returns-in-err-at : goal.returns-in-err-at
-returns-in-err-at g c =
+pub returns-in_err-at : goal.returns-in_err-at
+returns-in_err-at g c =
     let t = g.R.Rule.tables c.args.self.now.rule.now in
     let p = plain c.args.self.now in
     let call = restate c.args.id (g.S.Source.meaning c.args.source.now) in
-    let f = c.in-err-at.field-0.0 in
-    let d = not-open p c.args.id f (λ x. if_read (g.S.Source.meaning c.args.source.now) below_zero) c.in-err-at.ensures in
+    let f = c.in_err-at.field-0.0 in
+    let d = not-open p c.args.id f (λ x. if_read (g.S.Source.meaning c.args.source.now) below_zero) c.in_err-at.ensures in
     record {
       book = sym (after-declined t p call f d);
       rule = refl {a = c.args.self.now.rule};
-      told = told-declined t p call _ f (passed_on _ f c.from-residual.ensures.1) d;
+      told = told-declined t p call _ f (passed_on _ f c.from_residual.ensures.1) d;
     }
 
-pub returns-in-err-reading : goal.returns-in-err-reading
-returns-in-err-reading g c =
+pub returns-in_err-reading : goal.returns-in_err-reading
+returns-in_err-reading g c =
     let t = g.R.Rule.tables c.args.self.now.rule.now in
     let p = plain c.args.self.now in
     let m = g.S.Source.meaning c.args.source.now in
-    let f = c.in-err-reading.field-0.0 in
-    let d = is_open p c.args.id c.in-ok-at.at (if_read m below_zero) c.in-ok-at.ensures ∙ emissions-err m f c.in-err-reading.ensures in
+    let f = c.in_err-reading.field-0.0 in
+    let d = is-open p c.args.id c.in_ok-at.at (if_read m below_zero) c.in_ok-at.ensures ∙ emissions-err m f c.in_err-reading.ensures in
     record {
       book = sym (after-declined t p (restate c.args.id m) f d);
       rule = refl {a = c.args.self.now.rule};
-      told = told-declined t p (restate c.args.id m) _ f (passed_on _ f c.from-residual-in-err-reading.ensures.1) d;
+      told = told-declined t p (restate c.args.id m) _ f (passed_on _ f c.from_residual-in_err-reading.ensures.1) d;
     }
 
 pub index-row-requires : goal.index-row-requires
 index-row-requires g c =
     let investees = c.args.self.now.investees in
-    omega (arith, open-within (vec_items investees) c.args.id c.in-ok-at.at c.in-ok-at.ensures, investees.ok.0)
+    omega (arith, open-within (vec_items investees) c.args.id c.in_ok-at.at c.in_ok-at.ensures, investees.ok.0)
 
-pub index-mut-requires : goal.index-mut-requires
-index-mut-requires g c =
+pub index_mut-requires : goal.index_mut-requires
+index_mut-requires g c =
     let investees = c.args.self.now.investees in
-    omega (arith, open-within (vec_items investees) c.args.id c.in-ok-at.at c.in-ok-at.ensures, investees.ok.0)
+    omega (arith, open-within (vec_items investees) c.args.id c.in_ok-at.at c.in_ok-at.ensures, investees.ok.0)
 
 accepted : (g : given.Over) (c : After-restated g) → declined (g.R.Rule.tables c.args.self.now.rule.now) (plain c.args.self.now) (restate c.args.id (g.S.Source.meaning c.args.source.now)) ≡ None
 accepted g c =
     let m = g.S.Source.meaning c.args.source.now in
-    is_open (plain c.args.self.now) c.args.id c.in-ok-at.at (if_read m below_zero) c.in-ok-at.ensures ∙ (emissions-ok m c.in-ok-reading.reading c.in-ok-reading.ensures).1
+    is-open (plain c.args.self.now) c.args.id c.in_ok-at.at (if_read m below_zero) c.in_ok-at.ensures ∙ (emissions-ok m c.in_ok-reading.reading c.in_ok-reading.ensures).1
 
 -- the book is that after the call
-is-after : (g : given.Over) (c : After-restated g) → plain_rows (set (vec_items c.args.self.now.investees) c.in-ok-at.at c.restated.result) c.args.self.now.positions ≡ after (g.R.Rule.tables c.args.self.now.rule.now) (plain c.args.self.now) (restate c.args.id (g.S.Source.meaning c.args.source.now))
+is-after : (g : given.Over) (c : After-restated g) → plain_rows (set (vec_items c.args.self.now.investees) c.in_ok-at.at c.restated.result) c.args.self.now.positions ≡ after (g.R.Rule.tables c.args.self.now.rule.now) (plain c.args.self.now) (restate c.args.id (g.S.Source.meaning c.args.source.now))
 is-after g c =
     let t = g.R.Rule.tables c.args.self.now.rule.now in
     let p = plain c.args.self.now in
     let m = g.S.Source.meaning c.args.source.now in
-    ap (λ xs. with_investees p xs) (reread (vec_items c.args.self.now.investees) c.args.id c.in-ok-at.at c.in-ok-at.ensures restated m c.in-ok-reading.reading c.index-row.result.now c.restated.result (emissions-ok m c.in-ok-reading.reading c.in-ok-reading.ensures).0 c.index-row.ensures c.restated.ensures)
+    ap (λ xs. with_investees p xs) (reread (vec_items c.args.self.now.investees) c.args.id c.in_ok-at.at c.in_ok-at.ensures restated m c.in_ok-reading.reading c.index-row.result.now c.restated.result (emissions-ok m c.in_ok-reading.reading c.in_ok-reading.ensures).0 c.index-row.ensures c.restated.ensures)
     ∙ sym (after-accepted t p (restate c.args.id m) (accepted g c))
 
-pub invariant-of-self : goal.invariant-of-self
-invariant-of-self g c =
+pub invariant_of-self : goal.invariant_of-self
+invariant_of-self g c =
     let book = c.args.self.now in
-    (book.room, (kept-after (g.R.Rule.tables book.rule.now) (plain book) _ (restate c.args.id (g.S.Source.meaning c.args.source.now)) (g.S.Source.within c.args.source.now) book.kept (is-after g (goal.at.invariant-of-self g c).After-restated), tt))
+    record { room = book.room; kept = kept-after (g.R.Rule.tables book.rule.now) (plain book) _ (restate c.args.id (g.S.Source.meaning c.args.source.now)) (g.S.Source.within c.args.source.now) book.kept (is-after g (goal.at.invariant_of-self g c).After-restated) }
 
 pub returns : goal.returns
 returns g c =

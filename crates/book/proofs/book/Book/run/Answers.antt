@@ -20,7 +20,7 @@ loop-i-preserved g c =
     let one : c.loop-i.i < length c.args.calls.now = omega (arith, c.min-count.ensures) in
     let two : c.loop-i.i < length c.args.answers.now = omega (arith, c.min-count.ensures) in (
       c.apply-answer.ensures.rule ∙ same,
-      rw c.write-answer.ensures (sofar-more _ m _ _ _ c.loop-i.i p (plain c.apply-answer.new.self) c.loop-i.answers call c.apply-answer.result one two c.index-calls-i.is
+      rw c.write_answer.ensures (sofar-more _ m _ _ _ c.loop-i.i p (plain c.apply-answer.new.self) c.loop-i.answers call c.apply-answer.result one two c.index-calls-i.is
           (c.apply-answer.ensures.book ∙ ap (λ u. after u p (step_of m call)) t)
           (c.apply-answer.ensures.told ∙ ap (λ u. answer u p (step_of m call)) t)
           c.loop-i.invariant.1),

@@ -13,34 +13,34 @@ use Rattle.book.proofs.book.Book.sheet_of.Goals as goal
 pub loop-row-init : goal.loop-row-init
 loop-row-init g c = summed-none _
 
-pub part-of-requires : goal.part-of-requires
-part-of-requires g c =
+pub part_of-requires : goal.part_of-requires
+part_of-requires g c =
     let book = c.args.self.now in
-    let read = c.as-slice-row-items.result.now in
-    let all = rows-within (vec_items book.investees) book.positions book.kept read c.as-slice-row-items.ensures.value in
+    let read = c.as_slice-row-items.result.now in
+    let all = rows-within (vec_items book.investees) book.positions book.kept read c.as_slice-row-items.ensures.value in
     All-get_or (λ row. WithinBook (positions_in book.positions) (plain_investee row)) read c.loop-row.row-index _ c.loop-row-test.true all
 
 pub added-sum-requires : goal.added-sum-requires
 added-sum-requires g c =
     let book = c.args.self.now in
     let t = g.R.Rule.tables book.rule.now in
-    let read = c.as-slice-row-items.result.now in
-    let all = rows-within (vec_items book.investees) book.positions book.kept read c.as-slice-row-items.ensures.value in (
-      parts-sofar-within t (plain book) c.args.branch read all c.loop-row.row-index c.loop-row-test.true most_investees c.loop-row.sum (omega (arith, c.as-slice-row-items.ensures.len, book.room.0)) c.loop-row.invariant,
-      next-part-within t (plain book) c.args.branch read all c.loop-row.row-index c.loop-row-test.true _ c.part-of.result c.part-of.ensures,
+    let read = c.as_slice-row-items.result.now in
+    let all = rows-within (vec_items book.investees) book.positions book.kept read c.as_slice-row-items.ensures.value in (
+      parts-sofar-within t (plain book) c.args.branch read all c.loop-row.row-index c.loop-row-test.true most_investees c.loop-row.sum (omega (arith, c.as_slice-row-items.ensures.len, book.room.0)) c.loop-row.invariant,
+      next-part-within t (plain book) c.args.branch read all c.loop-row.row-index c.loop-row-test.true _ c.part_of.result c.part_of.ensures,
     )
 
 pub loop-row-preserved : goal.loop-row-preserved
 loop-row-preserved g c =
     let book = c.args.self.now in
     c.added-sum.ensures
-    ∙ summed-more (row_part (g.R.Rule.tables book.rule.now) (plain book) c.args.branch) c.as-slice-row-items.result.now c.loop-row.row-index _ c.loop-row-test.true
-    c.loop-row.sum c.part-of.result c.loop-row.invariant c.part-of.ensures
+    ∙ summed-more (row_part (g.R.Rule.tables book.rule.now) (plain book) c.args.branch) c.as_slice-row-items.result.now c.loop-row.row-index _ c.loop-row-test.true
+    c.loop-row.sum c.part_of.result c.loop-row.invariant c.part_of.ensures
 
 pub returns : goal.returns
 returns g c =
     let book = c.args.self.now in
     let t = g.R.Rule.tables book.rule.now in
     c.loop-row.invariant
-    ∙ ap (summed (row_part t (plain book) c.args.branch)) (take_all c.loop-row.row-index c.as-slice-row-items.result.now c.loop-row-test.false ∙ c.as-slice-row-items.ensures.value)
+    ∙ ap (summed (row_part t (plain book) c.args.branch)) (take_all c.loop-row.row-index c.as_slice-row-items.result.now c.loop-row-test.false ∙ c.as_slice-row-items.ensures.value)
     ∙ sheet-rows t (vec_items book.investees) book.positions c.args.branch

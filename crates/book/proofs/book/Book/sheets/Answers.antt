@@ -10,9 +10,9 @@ pub loop-k-preserved : goal.loop-k-preserved
 loop-k-preserved g c =
     let book = c.args.self.now in
     let f = sheet_if_any (g.R.Rule.tables book.rule.now) (plain book) in (
-      length-set c.loop-k.sheets c.loop-k.k c.if-any.result ∙ c.loop-k.invariant.0,
-      filled_more f (reverse branches) c.loop-k.sheets c.loop-k.k 0 c.if-any.result
-          (omega (arith, branches-long, c.loop-k-test.true)) (omega (arith, c.loop-k.invariant.0, c.loop-k-test.true)) (c.if-any.ensures ∙ ap₂ (λ any sheet. cond any (Some sheet) None) c.has-branch.ensures (c.all-sheets-sums.ensures.sheets c.loop-k.k c.loop-k-test.true) ∙ ap f (branch-at c.loop-k.k c.loop-k-test.true)) c.loop-k.invariant.1,
+      length-set c.loop-k.sheets c.loop-k.k c.if_any.result ∙ c.loop-k.invariant.0,
+      filled_more f (reverse branches) c.loop-k.sheets c.loop-k.k 0 c.if_any.result
+          (omega (arith, branches-long, c.loop-k-test.true)) (omega (arith, c.loop-k.invariant.0, c.loop-k-test.true)) (c.if_any.ensures ∙ ap₂ (λ any sheet. cond any (Some sheet) None) c.has_branch.ensures (c.all_sheets-sums.ensures.sheets c.loop-k.k c.loop-k-test.true) ∙ ap f (branch-at c.loop-k.k c.loop-k-test.true)) c.loop-k.invariant.1,
     )
 
 pub returns : goal.returns

@@ -5,7 +5,7 @@ use Rattle.book.proofs.Propositions.{kept_of}
 use Rattle.book.proofs.WithinBook.{within-book}
 use Rattle.book.proofs.book.Book.total.Goals as goal
 
-pub total-of-requires : goal.total-of-requires
-total-of-requires g c =
+pub total_of-requires : goal.total_of-requires
+total_of-requires g c =
     let book = c.args.self.now in
     within-book (plain book) (kept_of (plain book) book.kept) c.args.id (plain_investee c.in-Some.row) (sym c.in-Some.ensures)

@@ -48,5 +48,5 @@ returns g c =
     let m = c.args.month in
     let is-posted : is_posted b (id_of x) m p.positions ≡ true = sym (posted-alike m (position_of b (id_of x) p.positions)) ∙ ap is_some (sym (was g (goal.at.returns g c).After-exposure)) in
     let same : c.moved-exposure.result ≡ exposure_to x (amended b (id_of x) m c.args.balance p.positions) = omega (arith, after g (goal.at.returns g c).After-exposure, c.moved-exposure.ensures, c.exposure.ensures) in
-    c.too-much.ensures ∙ ap (too_much_at t x) same
+    c.too_much.ensures ∙ ap (too_much_at t x) same
     ∙ sym (cond-false (not (is_posted b (id_of x) m p.positions)) _ _ (not_from_true _ is-posted))

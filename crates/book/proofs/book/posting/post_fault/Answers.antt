@@ -18,7 +18,7 @@ use Rattle.book.proofs.book.posting.post_fault.Goals.{After-exposure}
 free : (g : given.Over) (c : After-exposure g) → is_posted c.args.branch c.args.row.profile.id c.args.month (plain c.args.book.now).positions ≡ false
 free g c =
     sym (posted-alike c.args.month (position_of c.args.branch c.args.row.profile.id (plain c.args.book.now).positions))
-    ∙ ap is_some (sym (c.balance.ensures ∙ cond-true (in_year c.args.month) _ _ (entry-in-year (plain c.args.book.now) c.args.branch c.args.month c.args.balance (plain_investee c.args.row) c.requires))) ∙ sym c.is-some.ensures ∙ c.if-is-some.false
+    ∙ ap is_some (sym (c.balance.ensures ∙ cond-true (in_year c.args.month) _ _ (entry-in-year (plain c.args.book.now) c.args.branch c.args.month c.args.balance (plain_investee c.args.row) c.requires))) ∙ sym c.is_some.ensures ∙ c.if-is_some.false
 
 pub moved-exposure-requires : goal.moved-exposure-requires
 moved-exposure-requires g c =
@@ -40,6 +40,6 @@ returns g c =
     let is_free = free g (goal.at.returns g c).After-exposure in
     let after = exposure-posted p (kept_of p c.args.book.now.kept) b m c.args.balance x c.requires is_free in
     let same : c.moved-exposure.result ≡ exposure_to x (posted b (id_of x) m c.args.balance p.positions) = omega (arith, after, c.moved-exposure.ensures, c.exposure.ensures, none-counts x.profile.kind) in
-    c.too-much.ensures ∙ ap (too_much_at t x) same
+    c.too_much.ensures ∙ ap (too_much_at t x) same
     ∙ sym (cond-false (is_posted b (id_of x) m p.positions) _ _ is_free
-    ∙ cond-false (no_room_for b (id_of x) p.positions) _ _ (sym c.no-room-for.ensures ∙ c.if-no-room-for.false))
+    ∙ cond-false (no_room_for b (id_of x) p.positions) _ _ (sym c.no_room_for.ensures ∙ c.if-no_room_for.false))

@@ -7,4 +7,4 @@ pub shares-requires : goal.shares-requires
 shares-requires g c =
     let book = c.args.book.now in
     fair-turn (g.R.Rule.tables book.rule.now) (g.R.Rule.lawful book.rule.now) (positions_in book.positions) (plain_investee c.args.row) c.requires
-    c.standing-of.result c.turn-turn.result c.args.branch c.standing-of.ensures c.turn-turn.ensures
+    c.standing_of.result c.turn-turn.result c.args.branch c.standing_of.ensures c.turn-turn.ensures
