@@ -12,5 +12,5 @@ pub returns : goal.returns
 unfolding line
 returns c =
     subst (λ bytes. IfOk c.format.result (λ s. string_bytes s ≡ bytes))
-    (same_line c.in-ok-projects.ensures c.in-ok-rest.ensures c.in-ok-all.ensures c.in-ok-grade.ensures)
+    (same_line c.in_ok-projects.ensures c.in_ok-rest.ensures c.in_ok-all.ensures c.in_ok-grade.ensures)
     c.format.ensures.ok

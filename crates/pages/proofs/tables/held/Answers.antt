@@ -6,9 +6,9 @@ use Rattle.pages.proofs.tables.held.Goals as goal
 pub loop-account-init : goal.loop-account-init
 loop-account-init c = (zero-add _, omega arith, λ h. h)
 
-pub loop-account-preserved-in-default : goal.loop-account-preserved-in-default
-loop-account-preserved-in-default c =
-    let same = given-more-none c.args.accounts.now c.loop-account.account-index c.loop-account-test.true c.in-default.is in
+pub loop-account-preserved-in_default : goal.loop-account-preserved-in_default
+loop-account-preserved-in_default c =
+    let same = given-more-none c.args.accounts.now c.loop-account.account-index c.loop-account-test.true c.in_default.is in
     (omega (arith, c.loop-account.invariant.0, ap length same), omega (arith, c.loop-account.invariant.1), λ h. c.loop-account.invariant.2 (subst (All (λ a. a.id < 2 ^ 32)) (sym same) h))
 
 pub loop-account-preserved : goal.loop-account-preserved

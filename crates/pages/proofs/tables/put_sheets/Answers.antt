@@ -8,20 +8,20 @@ use Rattle.pages.proofs.tables.put_sheets.Goals as goal
 pub loop-i-init : goal.loop-i-init
 loop-i-init c = (left-all _ _ _, c.requires)
 
-pub loop-i-preserved-in-default : goal.loop-i-preserved-in-default
-loop-i-preserved-in-default c = (subst (Left _ _ _ _ _) (branch-more-none c.args.sheets.now c.loop-i.i c.loop-i-test.true c.in-default.is) c.loop-i.invariant.0, c.loop-i.invariant.1)
+pub loop-i-preserved-in_default : goal.loop-i-preserved-in_default
+loop-i-preserved-in_default c = (subst (Left _ _ _ _ _) (branch-more-none c.args.sheets.now c.loop-i.i c.loop-i-test.true c.in_default.is) c.loop-i.invariant.0, c.loop-i.invariant.1)
 
-pub returns-in-err-end : goal.returns-in-err-end
-returns-in-err-end c =
-    let line = subst (λ b. Wrote c.loop-i.buffer c.loop-i.end (branch_line b c.in-Some.sheet) c.put-branch.new.buffer None) c.branch-at.ensures c.in-err-end.ensures in
+pub returns-in_err-end : goal.returns-in_err-end
+returns-in_err-end c =
+    let line = subst (λ b. Wrote c.loop-i.buffer c.loop-i.end (branch_line b c.in-Some.sheet) c.put_branch.new.buffer None) c.branch_at.ensures c.in_err-end.ensures in
     left-stop (branch_line (c.loop-i.i + 1) c.in-Some.sheet) _ (subst (Left _ _ _ _ _) (branch-more-some c.args.sheets.now c.loop-i.i _ c.loop-i-test.true c.in-Some.is) c.loop-i.invariant.0)
-    c.from-residual.ensures line
+    c.from_residual.ensures line
 
 pub loop-i-preserved : goal.loop-i-preserved
 loop-i-preserved c =
-    let line = subst (λ b. Wrote c.loop-i.buffer c.loop-i.end (branch_line b c.in-Some.sheet) c.put-branch.new.buffer (Some c.in-ok-end.end)) c.branch-at.ensures c.in-ok-end.ensures in (
+    let line = subst (λ b. Wrote c.loop-i.buffer c.loop-i.end (branch_line b c.in-Some.sheet) c.put_branch.new.buffer (Some c.in_ok-end.end)) c.branch_at.ensures c.in_ok-end.ensures in (
       left-more (branch_line (c.loop-i.i + 1) c.in-Some.sheet) _ (subst (Left _ _ _ _ _) (branch-more-some c.args.sheets.now c.loop-i.i _ c.loop-i-test.true c.in-Some.is) c.loop-i.invariant.0) line,
-      omega (arith, line.told.1, c.put-branch.auto.buffer),
+      omega (arith, line.told.1, c.put_branch.auto.buffer),
     )
 
 pub returns : goal.returns

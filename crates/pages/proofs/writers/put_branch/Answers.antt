@@ -6,29 +6,29 @@ use Rattle.lines.proofs.Writes.{left-all, left-put, left-put-stop, left-more, le
 use Rattle.pages.proofs.Pieces.{branch-pieces}
 use Rattle.pages.proofs.writers.put_branch.Goals as goal
 
-pub returns-in-err-at : goal.returns-in-err-at
-returns-in-err-at c =
-    let letter = c.in-err-at.ensures in
-    subst (λ line. Wrote c.args.buffer.now c.args.at line c.put.new.buffer c.from-residual.result) (sym (branch-pieces c.args.branch c.args.sheet))
-    (left-put-stop (66 ∷ 32 ∷ []) _ (left-all _ _ _) c.from-residual.ensures letter.place letter.buffer)
+pub returns-in_err-at : goal.returns-in_err-at
+returns-in_err-at c =
+    let letter = c.in_err-at.ensures in
+    subst (λ line. Wrote c.args.buffer.now c.args.at line c.put.new.buffer c.from_residual.result) (sym (branch-pieces c.args.branch c.args.sheet))
+    (left-put-stop (66 ∷ 32 ∷ []) _ (left-all _ _ _) c.from_residual.ensures letter.place letter.buffer)
 
-pub returns-in-err-at-2 : goal.returns-in-err-at-2
-returns-in-err-at-2 c =
-    let letter = c.in-ok-at.ensures in
-    subst (λ line. Wrote c.args.buffer.now c.args.at line c.put-field.new.buffer c.from-residual-in-err-at-2.result) (sym (branch-pieces c.args.branch c.args.sheet))
+pub returns-in_err-at-2 : goal.returns-in_err-at-2
+returns-in_err-at-2 c =
+    let letter = c.in_ok-at.ensures in
+    subst (λ line. Wrote c.args.buffer.now c.args.at line c.put_field.new.buffer c.from_residual-in_err-at-2.result) (sym (branch-pieces c.args.branch c.args.sheet))
     (left-stop (decimal c.args.branch ++ 32 ∷ []) _
     (left-put (66 ∷ 32 ∷ []) _ (left-all _ _ _) letter.place letter.buffer)
-    c.from-residual-in-err-at-2.ensures c.in-err-at-2.ensures)
+    c.from_residual-in_err-at-2.ensures c.in_err-at-2.ensures)
 
 pub returns : goal.returns
 returns c =
     let fit : SFits w64 c.args.sheet.emissions = search rules in
     let same : to_z w64 (of_z w64 c.args.sheet.emissions) ≡ c.args.sheet.emissions = to_z-of_z w64 _ fit in
-    let letter = c.in-ok-at.ensures in
-    let last = subst (λ z. Wrote c.put-field.new.buffer c.in-ok-at-2.at (signed_decimal z ++ 10 ∷ []) c.put-kilograms.new.buffer c.put-kilograms.result) same c.put-kilograms.ensures in
-    subst (λ line. Wrote c.args.buffer.now c.args.at line c.put-kilograms.new.buffer c.put-kilograms.result) (sym (branch-pieces c.args.branch c.args.sheet))
+    let letter = c.in_ok-at.ensures in
+    let last = subst (λ z. Wrote c.put_field.new.buffer c.in_ok-at-2.at (signed_decimal z ++ 10 ∷ []) c.put_kilograms.new.buffer c.put_kilograms.result) same c.put_kilograms.ensures in
+    subst (λ line. Wrote c.args.buffer.now c.args.at line c.put_kilograms.new.buffer c.put_kilograms.result) (sym (branch-pieces c.args.branch c.args.sheet))
     (left-last (signed_decimal c.args.sheet.emissions ++ 10 ∷ [])
     (left-more (decimal c.args.branch ++ 32 ∷ []) _
     (left-put (66 ∷ 32 ∷ []) _ (left-all _ _ _) letter.place letter.buffer)
-    c.in-ok-at-2.ensures)
+    c.in_ok-at-2.ensures)
     last)

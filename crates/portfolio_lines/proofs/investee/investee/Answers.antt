@@ -5,19 +5,19 @@ use Rattle.portfolio_lines.proofs.Counts.{few-fields}
 use Rattle.portfolio_lines.proofs.Held.{line-wrong, line-surplus, line_read}
 use Rattle.portfolio_lines.proofs.investee.investee.Goals as goal
 
-pub returns-in-err-entry : goal.returns-in-err-entry
-returns-in-err-entry c =
-    let p = err_from_is_err_and c.from-residual.result c.from-residual.ensures.1 in
-    rw (p.1, p.2) (line-wrong c.args.line.now (record { place = 1; left = pieces_left c.new.result.separator c.new.result.rest }) _ c.if-line-gt-MOST-BYTES.false (ap (λ l. record { place = 1; left = l }) c.new.ensures.pieces) c.in-err-entry.ensures)
+pub returns-in_err-entry : goal.returns-in_err-entry
+returns-in_err-entry c =
+    let p = err_from_is_err_and c.from_residual.result c.from_residual.ensures.1 in
+    rw (p.1, p.2) (line-wrong c.args.line.now (record { place = 1; left = pieces_left c.new.result.separator c.new.result.rest }) _ c.if-line-gt-MOST_BYTES.false (ap (λ l. record { place = 1; left = l }) c.new.ensures.pieces) c.in_err-entry.ensures)
 
-pub returns-in-err-end : goal.returns-in-err-end
-returns-in-err-end c =
-    let p = err_from_is_err_and c.from-residual-in-err-end.result c.from-residual-in-err-end.ensures.1 in
-    rw (p.1, p.2) (line-surplus c.args.line.now (record { place = 1; left = pieces_left c.new.result.separator c.new.result.rest }) _ _ _ c.if-line-gt-MOST-BYTES.false (ap (λ l. record { place = 1; left = l }) c.new.ensures.pieces) c.in-ok-entry.ensures c.in-err-end.ensures)
+pub returns-in_err-end : goal.returns-in_err-end
+returns-in_err-end c =
+    let p = err_from_is_err_and c.from_residual-in_err-end.result c.from_residual-in_err-end.ensures.1 in
+    rw (p.1, p.2) (line-surplus c.args.line.now (record { place = 1; left = pieces_left c.new.result.separator c.new.result.rest }) _ _ _ c.if-line-gt-MOST_BYTES.false (ap (λ l. record { place = 1; left = l }) c.new.ensures.pieces) c.in_ok-entry.ensures c.in_err-end.ensures)
 
 pub returns : goal.returns
 returns c =
-    line_read c.args.line.now (record { place = 1; left = pieces_left c.new.result.separator c.new.result.rest }) _ _ _ c.if-line-gt-MOST-BYTES.false (ap (λ l. record { place = 1; left = l }) c.new.ensures.pieces) c.in-ok-entry.ensures c.in-ok-end.ensures
+    line_read c.args.line.now (record { place = 1; left = pieces_left c.new.result.separator c.new.result.rest }) _ _ _ c.if-line-gt-MOST_BYTES.false (ap (λ l. record { place = 1; left = l }) c.new.ensures.pieces) c.in_ok-entry.ensures c.in_ok-end.ensures
 
-pub invariant-of-fields : goal.invariant-of-fields
-invariant-of-fields c = (few-fields c.args.line.now _ c.new.ensures.pieces c.if-line-gt-MOST-BYTES.false, tt)
+pub invariant_of-fields : goal.invariant_of-fields
+invariant_of-fields c = (few-fields c.args.line.now _ c.new.ensures.pieces c.if-line-gt-MOST_BYTES.false, tt)

@@ -5,5 +5,5 @@ use Rattle.portfolio_lines.proofs.investee.read_entry.Goals as goal
 
 pub returns : goal.returns
 returns c =
-    entry_read (fields_left c.args.fields.now) (fields_left c.numbers.new.self) (fields_left c.read-method.new.fields) _ _ c.in-ok-head.ensures c.in-ok-method.ensures
-    ∙ ap (λ e. Ok (e, fields_left c.read-method.new.fields)) (sym c.entry.ensures)
+    entry_read (fields_left c.args.fields.now) (fields_left c.numbers.new.self) (fields_left c.read_method.new.fields) _ _ c.in_ok-head.ensures c.in_ok-method.ensures
+    ∙ ap (λ e. Ok (e, fields_left c.read_method.new.fields)) (sym c.entry.ensures)

@@ -5,6 +5,6 @@ use Rattle.portfolio_lines.proofs.posts.accepted_balance.Goals as goal
 pub returns : goal.returns
 returns c =
     record {
-      value = c.balance-of.ensures;
-      lines = λ b. (λ h. balance-line c.args.line.now b (sym c.balance-of.ensures ∙ h), λ l. c.balance-of.ensures ∙ balance-reads c.args.line.now b l);
+      value = c.balance_of.ensures;
+      lines = λ b. (λ h. balance-line c.args.line.now b (sym c.balance_of.ensures ∙ h), λ l. c.balance_of.ensures ∙ balance-reads c.args.line.now b l);
     }

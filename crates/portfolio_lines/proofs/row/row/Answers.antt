@@ -1,5 +1,5 @@
 use Rattle.portfolio_lines.proofs.Counts.{few-fields}
 use Rattle.portfolio_lines.proofs.row.row.Goals as goal
 
-pub invariant-of-fields : goal.invariant-of-fields
-invariant-of-fields g c = (few-fields c.args.line.now _ c.new.ensures.pieces c.if-line-gt-MOST-BYTES.false, tt)
+pub invariant_of-fields : goal.invariant_of-fields
+invariant_of-fields g c = (few-fields c.args.line.now _ c.new.ensures.pieces c.if-line-gt-MOST_BYTES.false, tt)

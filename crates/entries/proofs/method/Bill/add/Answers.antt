@@ -21,8 +21,8 @@ held-full b term terms is le =
     let rows : (bill_of terms).terms ≡ (bill_of (terms ++ term ∷ [])).terms = full-stays term most_held terms (replicate most_held no_term) (omega arith) in
     is ∙ (λ t. record { terms = rows t; count = same t })
 
-pub returns-then-self-lt-MOST-HELD : goal.returns-then-self-lt-MOST-HELD
-returns-then-self-lt-MOST-HELD c terms is = c.put.ensures ∙ held_next c.args.self.now c.args.term terms is c.if-self-lt-MOST-HELD.true
+pub returns-then-self-lt-MOST_HELD : goal.returns-then-self-lt-MOST_HELD
+returns-then-self-lt-MOST_HELD c terms is = c.put.ensures ∙ held_next c.args.self.now c.args.term terms is c.if-self-lt-MOST_HELD.true
 
-pub returns-else-self-lt-MOST-HELD : goal.returns-else-self-lt-MOST-HELD
-returns-else-self-lt-MOST-HELD c terms is = held-full c.args.self.now c.args.term terms is c.if-self-lt-MOST-HELD.false
+pub returns-else-self-lt-MOST_HELD : goal.returns-else-self-lt-MOST_HELD
+returns-else-self-lt-MOST_HELD c terms is = held-full c.args.self.now c.args.term terms is c.if-self-lt-MOST_HELD.false
