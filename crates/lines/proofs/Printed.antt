@@ -1,14 +1,13 @@
 -- A line reads as its numbers just where it is what they print as.
-use Rattle.std.proofs.Common.{◌≡◌, ℕ, zero, suc, ◌+◌, ◌-◌, ◌^◌, ◌<◌, ◌≤◌, Bool, true, false, cond, eqb, ltb, ◌⊎◌, List, [], ◌∷◌, ◌++◌, map, length, get_or, Some, None, Ok, Err, decimal, Option, Result, sym, refl, ap, ◌∙◌, subst, inl, inr, ⊎_elim, arith}
-use Rattle.std.specs.Int.{IsInRange}
+use Rattle.std.proofs.Common.{◌≡◌, ℕ, zero, suc, ◌^◌, ◌<◌, true, false, cond, eqb, ltb, List, [], ◌∷◌, ◌++◌, map, length, get_or, Some, None, Ok, Err, decimal, Option, Result, sym, refl, ap, ◌∙◌, subst, ⊎_elim, arith}
 use Rattle.std.specs.List.{AllByRecursion as All}
-use Rattle.std.proofs.lemmas.Bool.{eqb-true, ne_eqb, eq-eqb, cases_eq, cases_lt, lt-ltb, le-ltb, cond-true, cond-false}
+use Rattle.std.proofs.lemmas.Bool.{ne_eqb, eq-eqb, cases_eq, cases_lt, lt-ltb, le-ltb, cond-true, cond-false}
 use Rattle.std.proofs.lemmas.Fmt.{digits_decimal}
 use Rattle.std.proofs.lemmas.Str.Parse.{not_in_digits}
 use Rattle.lines.specs.declared.fields.LineError.{LineError}
 use Rattle.lines.specs.declared.fields.LineError.TheVariants.{TooLong}
 use Rattle.lines.specs.Fields.{pieces, onto, numbers_of, first, at_field, fields_of, ended, line_of}
-use Rattle.lines.specs.Numerals.{number_of, Spells}
+use Rattle.lines.specs.Numerals.{number_of}
 use Rattle.lines.specs.Render.{join, printed, LineOfNumbers, AcceptsWhatIsPrinted}
 use Rattle.lines.proofs.Numbers.{digits, spells-from-number, number-from-spells}
 

@@ -1,5 +1,5 @@
 -- Tables that are not refused.
-use Rattle.std.proofs.Common.{◌≡◌, ℕ, ◌+◌, ◌*◌, ◌≤◌, min, Bool, true, false, cond, ◌&&◌, leb, List, [], ◌∷◌, map, length, is_some, Some, None, sum_by, Option, sym, refl, ap, ◌∙◌, ap₂, ⊎_elim, arith}
+use Rattle.std.proofs.Common.{◌≡◌, ℕ, ◌+◌, ◌*◌, ◌≤◌, min, Bool, true, false, cond, ◌&&◌, leb, List, [], ◌∷◌, map, length, is_some, Some, None, sum_by, Option, sym, refl, ◌∙◌, ap₂, ⊎_elim, arith}
 use Rattle.std.specs.List.{prefix_len, AllByRecursion as All}
 use Rattle.std.proofs.lemmas.List.{length-map}
 use Rattle.std.proofs.lemmas.List.Sums.{sum_by-cons, prefix_len-le-length}
@@ -9,7 +9,7 @@ use Rattle.std.proofs.lemmas.Bool.Decides.{nat_tests}
 use Rattle.factors.specs.Factors.{kilograms_of}
 use Rattle.grading.specs.Mean.{mean_of, nearest_hundredths}
 use Rattle.operations.specs.declared.items.Item.{Item}
-use Rattle.operations.specs.Items.{kilograms_in, acceptable, worked, with_kilograms, at_most}
+use Rattle.operations.specs.Items.{acceptable, worked, with_kilograms, at_most}
 use Rattle.operations.specs.Tables.{refusal_of}
 
 -- the limits of an item that has been worked out

@@ -6,7 +6,7 @@ use Rattle.rules.specs.declared.kinds.Kind.{Kind}
 use Rattle.rules.specs.declared.kinds.Kind.TheVariants.{Project, PropertyDevelopment, PropertyPurchase, Vehicle, GeneralLoan, Bond}
 use Rattle.rules.specs.declared.kinds.Size.{Size}
 use Rattle.rules.specs.Kinds.{kind_number}
-use Rattle.rules.specs.Reasons.{Reason, few-days, small-loan, small-borrower, repaid, reason_number, least_days, least_loan, small_size, first_passed, Holds, FirstReason}
+use Rattle.rules.specs.Reasons.{Reason, few-days, small-loan, small-borrower, repaid, reason_number, least_days, least_loan, small_size, first_passed, FirstReason}
 use Rattle.rules.specs.Pudong.{pudong_reasons, PudongApplies}
 
 fails : {A : Type 0} → Decides false A → A → ⊥

@@ -1,5 +1,5 @@
 -- Both guides' tables are lawful.
-use Rattle.std.specs.Prelude.{◌≡◌, ℕ, ◌≤◌, Bool, true, false, Ok, Err, ◌==◌, nat_lt, refl}
+use Rattle.std.specs.Prelude.{ℕ, ◌≤◌, Bool, true, false, Ok, Err, ◌==◌, nat_lt, refl}
 use Rattle.std.proofs.Common.{inl, inr, arith, lit≤}
 use Rattle.std.proofs.lemmas.Bool.{eqb-false, cond_both}
 use Rattle.faults.specs.declared.Refusal.TheVariants.{FigureNotGiven}
@@ -10,7 +10,7 @@ use Rattle.rules.specs.declared.kinds.Kind.TheVariants.{Project, PropertyDevelop
 use Rattle.rules.specs.declared.kinds.Size.{Size}
 use Rattle.rules.specs.Figures.{most_figure, WithinLimits, given, given_or_whole}
 use Rattle.rules.specs.Reasons.{least_days, least_loan, small_size, first_passed}
-use Rattle.rules.specs.Tables.{Tables, BaseInRange, Lawful}
+use Rattle.rules.specs.Tables.{BaseInRange, Lawful}
 use Rattle.rules.specs.National.{national_bases, national_reasons, national_tables}
 use Rattle.rules.specs.Pudong.{pudong_bases, pudong_reasons, pudong_tables}
 

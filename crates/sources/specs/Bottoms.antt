@@ -2,7 +2,7 @@
 --   cond b x y    x where the test b holds, else y
 --   ltb a b       whether a < b, so that `ltb most n` says that n is above its limit
 --   fault r p s   the refusal r at the place p, found by the source of number s
-use Rattle.std.specs.Prelude.{ℕ, ◌+◌, ◌*◌, Bool, cond, ◌||◌, ltb, List, length, pos, is_some, Ok, Err, sum_by, Result, ◌==◌, nat_lt}
+use Rattle.std.specs.Prelude.{ℕ, ◌+◌, ◌*◌, Bool, cond, ◌||◌, List, length, pos, is_some, Ok, Err, sum_by, Result, ◌==◌, nat_lt}
 use Rattle.std.specs.Option.{unwrap_or}
 use Rattle.std.specs.List.{prefix_len}
 use Rattle.factors.specs.Factors.{tenths_of, rounded_up}

@@ -3,7 +3,7 @@
 --   f          the layer's figures
 --   below      what the source under the layer means
 --   on_ok k m   k of the reading that m is; a fault stays
-use Rattle.std.specs.Prelude.{ℕ, ◌+◌, ◌*◌, ◌/◌, Bool, cond, ◌||◌, pos, ◌-ℤ◌, Ok, Err, Result, ◌==◌, nat_lt}
+use Rattle.std.specs.Prelude.{ℕ, ◌+◌, ◌*◌, ◌/◌, Bool, cond, ◌||◌, pos, ◌-ℤ◌, Err, Result, ◌==◌, nat_lt}
 use Rattle.faults.specs.Refusals.{fault}
 use Rattle.faults.specs.declared.Fault.{Fault}
 use Rattle.faults.specs.declared.Refusal.TheVariants.{FigureOutOfRange, OverseasAboveReading, OffsetsAboveReading}

@@ -1,4 +1,4 @@
-use Rattle.std.proofs.Common.{◌≡◌, ◌+◌, ◌*◌, ◌/◌, ◌<◌, ◌≤◌, Some, arith, rules}
+use Rattle.std.proofs.Common.{◌≡◌, ◌+◌, ◌*◌, Some, arith, rules}
 use Rattle.std.proofs.lemmas.Nat.{div_below}
 use Rattle.grading.specs.Mean.{nearest_hundredths}
 use Rattle.grading.proofs.Nearest.{is-nearest}

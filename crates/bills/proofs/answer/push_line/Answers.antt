@@ -1,4 +1,4 @@
-use Rattle.std.proofs.Common.{◌≡◌, [], ◌∷◌, ◌++◌, string_bytes, ◌∙◌, ap₂, append_assoc, arith}
+use Rattle.std.proofs.Common.{[], ◌∷◌, ◌++◌, string_bytes, ◌∙◌, ap₂, append_assoc, arith}
 use Rattle.bills.proofs.answer.push_line.Goals as goal
 
 pub returns : goal.returns

@@ -1,6 +1,6 @@
-use Rattle.std.proofs.Common.{◌≡◌, ◌+◌, ◌≤◌, length, Err, vec_items, vec_len, sym, ap, ◌∙◌, arith}
+use Rattle.std.proofs.Common.{◌+◌, length, Err, sym, ap, ◌∙◌, arith}
 use Rattle.bills.specs.declared.reading.Malformed.TheVariants.{Unended, Line}
-use Rattle.bills.proofs.Sofar.{sofar-none, sofar-more, sofar-wrong, sofar-last, sofar-unended, sofar-all, left-none, left-some, some-pieces}
+use Rattle.bills.proofs.Sofar.{sofar-none, sofar-more, sofar-wrong, sofar-last, sofar-unended, sofar-all, left-none, left-some}
 use Rattle.bills.proofs.reading.read_lines.Goals as goal
 
 pub loop-line-init : goal.loop-line-init

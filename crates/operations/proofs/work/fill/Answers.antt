@@ -1,6 +1,5 @@
-use Rattle.std.proofs.Common.{◌≡◌, ℕ, map, sum_by, Option, ap, ◌∙◌, ap₂}
+use Rattle.std.proofs.Common.{◌≡◌, map, sum_by, ap, ◌∙◌, ap₂}
 use Rattle.grading.specs.Mean.{mean_of}
-use Rattle.operations.specs.declared.items.Totals.{Totals}
 use Rattle.operations.specs.Items.{worked}
 use Rattle.operations.proofs.Accepted.{accepted-within, sum-small, mean-same}
 use Rattle.operations.proofs.work.fill.Goals as goal

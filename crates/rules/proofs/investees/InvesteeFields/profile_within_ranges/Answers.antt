@@ -1,4 +1,3 @@
-use Rattle.rules.specs.Investees.{Checked}
 use Rattle.rules.proofs.Ranges.{checks-ranges}
 use Rattle.rules.proofs.investees.InvesteeFields.profile_within_ranges.Goals as goal
 
