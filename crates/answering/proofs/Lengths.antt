@@ -1,6 +1,6 @@
 -- The line that says where a file stops fits into every buffer for a page.
 use Rattle.std.proofs.Common.{◌≡◌, ℕ, ◌+◌, ◌^◌, ◌<◌, ◌≤◌, List, [], ◌∷◌, ◌++◌, length, take, drop, Some, None, decimal, sym, refl, ap, ◌∙◌, subst, arith, MatchOption}
-use Rattle.std.specs.List.{AllByRecursion as All}
+use Rattle.std.specs.List.{AllByRecursion}
 use Rattle.std.proofs.lemmas.Fmt.{length-decimal-le}
 use Rattle.std.proofs.lemmas.List.{length-append}
 use Rattle.entries.specs.declared.stop.Stop.{Stop}
@@ -17,11 +17,11 @@ four : (a b c d : List ℕ) → length ((a ++ 32 ∷ (b ++ 32 ∷ (c ++ 32 ∷ d
 four a b c d =
     omega (arith, length-append (a ++ 32 ∷ (b ++ 32 ∷ (c ++ 32 ∷ d))) (10 ∷ []), length-append a (32 ∷ (b ++ 32 ∷ (c ++ 32 ∷ d))), length-append b (32 ∷ (c ++ 32 ∷ d)), length-append c (32 ∷ d))
 
-stop-short : (s : Stop) → All (λ n. n < 2 ^ 64) (stop_numbers s) → length (stop_line s) ≤ 86
+stop-short : (s : Stop) → AllByRecursion (λ n. n < 2 ^ 64) (stop_numbers s) → length (stop_line s) ≤ 86
 stop-short s fits =
     omega (arith, four (decimal s.line) (decimal (number_of s.fault.refusal)) (decimal s.fault.place) (decimal s.fault.source), twenty s.line fits.0, twenty (number_of s.fault.refusal) fits.1.0, twenty s.fault.place fits.1.1.0, twenty s.fault.source fits.1.1.1.0)
 
-module _ (buffer after : List ℕ) (s : Stop) (long : room ≤ length buffer) (fits : All (λ n. n < 2 ^ 64) (stop_numbers s)) where
+module _ (buffer after : List ℕ) (s : Stop) (long : room ≤ length buffer) (fits : AllByRecursion (λ n. n < 2 ^ 64) (stop_numbers s)) where
   pub stop-fits : Wrote buffer 0 (stop_line s) after None → ⊥
   stop-fits wrote = omega (arith, wrote.told, stop-short s fits, long)
 

@@ -1,6 +1,6 @@
 // The line that says where a file stops.
 ghost use Rattle.std.specs.Prelude.{◌≡◌, ◌^◌, ◌<◌, ◌≤◌, length};
-ghost use Rattle.std.specs.List.{AllByRecursion as All};
+ghost use Rattle.std.specs.List.{AllByRecursion};
 ghost use Rattle.lines.specs.Writing.{Wrote};
 ghost use Rattle.pages.specs.Placed.{room};
 ghost use Rattle.answering.specs.Buffers.{placed_text};
@@ -12,7 +12,7 @@ use lines::writing::{put, put_numbers};
 // The four numbers of a stop.
 fn stop_numbers(stop: Stop) -> [u64; 4]
     ensures value { result ≡ stop_numbers stop }
-    ensures fits { All (λ n. n < 2 ^ 64) (stop_numbers stop) }
+    ensures fits { AllByRecursion (λ n. n < 2 ^ 64) (stop_numbers stop) }
 {
     [
         stop.line as u64,
@@ -25,7 +25,7 @@ fn stop_numbers(stop: Stop) -> [u64; 4]
 // `X line refusal place source`
 fn put_stop(buffer: &mut [u8], stop: Stop) -> Option<usize>
     ensures line { Wrote buffer.old 0 (stop_line stop) buffer.new result }
-    ensures fits { All (λ n. n < 2 ^ 64) (stop_numbers stop) }
+    ensures fits { AllByRecursion (λ n. n < 2 ^ 64) (stop_numbers stop) }
 {
     let numbers = stop_numbers(stop);
     let at = put(buffer, 0, b"X ")?;

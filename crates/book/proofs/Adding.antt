@@ -1,7 +1,7 @@
 -- Sums over the elements read so far, and how large they are.
 use Rattle.std.proofs.Common.{◌≡◌, ℕ, ◌+◌, ◌*◌, ◌<◌, ◌≤◌, Bool, true, false, cond, List, [], ◌∷◌, ◌++◌, length, get_or, take, ℤ, pos, ◌+ℤ◌, nat_abs, sum_by, sym, refl, ap, ◌∙◌, ap₂, arith, take_all}
 use lib.IntN.{+ℤ_idl, +ℤ_idr}
-use Rattle.std.specs.List.{AllByRecursion as All}
+use Rattle.std.specs.List.{AllByRecursion}
 use Rattle.std.proofs.ByRecursion.{All-get_or, All-take, All-weaker, sum_by_le}
 use Rattle.std.proofs.lemmas.List.{take_more, length-take}
 use Rattle.std.proofs.lemmas.List.Sums.{sum_by_more}
@@ -47,7 +47,7 @@ unfolding sum_over
 summed-none f = refl
 
 -- where each is at most one figure
-pub summed-within : {X : Type 0} (f : X → Kilograms) (xs : List X) (n : ℕ) → length xs ≤ n → All (λ x. AtMostFigures 1 (f x)) xs → AtMostFigures n (summed f xs)
+pub summed-within : {X : Type 0} (f : X → Kilograms) (xs : List X) (n : ℕ) → length xs ≤ n → AllByRecursion (λ x. AtMostFigures 1 (f x)) xs → AtMostFigures n (summed f xs)
 summed-within f xs n h all = record {
   of_emissions = omega (arith, sum-within xs (λ x. (f x).emissions) most_kilograms (All-weaker _ _ (λ x w. omega (arith, w.of_emissions)) xs all));
   of_reductions = omega (arith, sum-within xs (λ x. (f x).reductions) most_kilograms (All-weaker _ _ (λ x w. omega (arith, w.of_reductions)) xs all));
@@ -80,7 +80,7 @@ module _ (g : Group) where
   unfolding sum_over
   sums_none = refl
 
-  pub sums-within : (lines : List Line) (n : ℕ) → length lines ≤ n → All LineWithinLimits lines → AtMostLines n (sums_of g lines)
+  pub sums-within : (lines : List Line) (n : ℕ) → length lines ≤ n → AllByRecursion LineWithinLimits lines → AtMostLines n (sums_of g lines)
   sums-within lines n h all = record {
     kilograms_within_limit = summed-within (λ l. (taken g l).kilograms) lines n h (All-weaker _ _ (λ l ok. (taken-within g l ok).kilograms_within_limit) lines all);
     positions_within_limit = omega (arith, sum_by_le (λ l. (taken g l).positions) most_positions lines (All-weaker _ _ (λ l ok. (taken-within g l ok).positions_within_limit) lines all));
@@ -88,7 +88,7 @@ module _ (g : Group) where
     reduced_within_limit = omega (arith, sum_by_le (λ l. covered reductions (taken g l)) most_positions lines (All-weaker _ _ (λ l ok. covered-within reductions (taken g l) (taken-within g l ok)) lines all));
   }
 
-  module _ (lines : List Line) (k : ℕ) (h : k < length lines) (all : All LineWithinLimits lines) where
+  module _ (lines : List Line) (k : ℕ) (h : k < length lines) (all : AllByRecursion LineWithinLimits lines) where
     pub sums-sofar-within : (n : ℕ) (s : Sums) → length lines ≤ n → s ≡ sums_of g (take k lines) → AtMostLines n s
     sums-sofar-within n s few is = rw is (sums-within (take k lines) n (omega (arith, length-take k lines)) (All-take LineWithinLimits k lines all))
 

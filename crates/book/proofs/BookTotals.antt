@@ -2,7 +2,7 @@
 use Rattle.std.proofs.Common.{◌≡◌, ℕ, ◌+◌, ◌*◌, ◌<◌, ◌≤◌, min, Bool, true, false, cond, ◌&&◌, eqb, List, [], ◌∷◌, ◌++◌, map, length, get_or, take, set, ℤ, pos, ◌+ℤ◌, nat_abs, sum_by, filter, sym, refl, ap, ◌∙◌, ap₂, arith, take_all}
 use mathlib.Core.Path.{fun_ext}
 use lib.IntN.{+ℤ_idl}
-use Rattle.std.specs.List.{AllByRecursion as All}
+use Rattle.std.specs.List.{AllByRecursion}
 use Rattle.std.proofs.ByRecursion.{All-map, All-weaker}
 use Rattle.std.proofs.lemmas.List.{length-map, take_more_set, map_more}
 use Rattle.std.proofs.lemmas.List.Sums.{sum_by-cons, length-filter, count_by-le-length}
@@ -40,7 +40,7 @@ kept-over {X} test f (x ∷ xs) = by (test x) (kept-over test f xs)
     by true rest = ap (λ z. f x +ℤ z) rest
     by false rest = rest ∙ sym (+ℤ_idl (sum_over xs (λ x. cond (test x) (f x) (pos 0))))
 
-sums_same : {X : Type 0} (f g : X → ℕ) (xs : List X) → All (λ x. f x ≡ g x) xs → sum_by f xs ≡ sum_by g xs
+sums_same : {X : Type 0} (f g : X → ℕ) (xs : List X) → AllByRecursion (λ x. f x ≡ g x) xs → sum_by f xs ≡ sum_by g xs
 sums_same f g [] all = refl
 sums_same f g (x ∷ xs) all = sum_by-cons f x xs ∙ ap₂ ◌+◌ all.0 (sums_same f g xs all.1) ∙ sym (sum_by-cons g x xs)
 
@@ -98,7 +98,7 @@ module _ (t : Tables) (p : PlainBook) where
 
   -- ---- the mean grade
 
-  module _ (xs : List PlainInvestee) (all : All (WithinBook p.positions) xs) where
+  module _ (xs : List PlainInvestee) (all : AllByRecursion (WithinBook p.positions) xs) where
     weight-line : (x : PlainInvestee) → WithinBook p.positions x → weight_of (line_of t p x) ≡ cond (is_counted t p.positions x) (exposure_to x p.positions) 0
     weight-line x ok = ap (λ n. cond (is_counted t p.positions x) n 0) (omega (arith, ok.exposure_within_limit))
 
@@ -114,7 +114,7 @@ module _ (t : Tables) (p : PlainBook) where
 
   -- ---- the whole book
 
-  pub book-total-lines : All (WithinBook p.positions) p.investees → book_total_from (map (line_of t p) p.investees) ≡ book_total_of t p
+  pub book-total-lines : AllByRecursion (WithinBook p.positions) p.investees → book_total_from (map (line_of t p) p.investees) ≡ book_total_of t p
   book-total-lines all =
       let xs = p.investees in
       let everyone = subtotal-lines group.All xs ∙ ap (subtotal_of t p) (all-kept xs) in
@@ -152,12 +152,12 @@ filled-all view f rows read ys n k same long low high filled =
 
 -- a slice of the table of lines is read as the lines of the book
 module _ (t : Tables) (p : PlainBook) (kept : KeptByEveryRun p) (lines : List Line) (is : lines ≡ map (line_of t p) p.investees) where
-  pub lines-within : All (WithinBook p.positions) p.investees → (length lines ≤ most_investees) × All LineWithinLimits lines
+  pub lines-within : AllByRecursion (WithinBook p.positions) p.investees → (length lines ≤ most_investees) × AllByRecursion LineWithinLimits lines
   lines-within all =
       rw is (
         omega (arith, length-map p.investees (line_of t p), kept.investees_within_limit),
         All-map LineWithinLimits (line_of t p) p.investees (All-weaker _ _ (line-within t p kept) p.investees all),
       )
 
-  pub book-total-told : All (WithinBook p.positions) p.investees → book_total_from lines ≡ book_total_of t p
+  pub book-total-told : AllByRecursion (WithinBook p.positions) p.investees → book_total_from lines ≡ book_total_of t p
   book-total-told all = ap book_total_from is ∙ book-total-lines t p all

@@ -1,6 +1,6 @@
 -- What a post and an amendment do to the exposure of their investee.
 use Rattle.std.proofs.Common.{◌≡◌, ℕ, ◌+◌, ◌-◌, ◌*◌, ◌<◌, ◌≤◌, Bool, true, false, cond, not, ◌&&◌, eqb, leb, List, [], ◌∷◌, ◌++◌, map, length, get_or, set, replicate, is_some, Some, None, sum_by, Option, unwrap_or, sym, refl, ap, ◌∙◌, subst, ap₂, ⊎_elim, arith}
-use Rattle.std.specs.List.{AllByRecursion as All}
+use Rattle.std.specs.List.{AllByRecursion}
 use Rattle.std.proofs.lemmas.List.{get_or_at, set_at, get_or-set_same, get_or-replicate}
 use Rattle.std.proofs.lemmas.List.Sums.{sum_by-set, sum_by_push}
 use Rattle.std.proofs.lemmas.Bool.{both_ways, eq-eqb, eqb-true, and_parts, and_from, and_cases, leb-false, not_from_false, not-false, cond-true, cond-false, cases_lt}
@@ -18,7 +18,7 @@ use Rattle.plain.proofs.Lists.{place_of, first_passes, first-all, first-at, firs
 use Rattle.positions.specs.Entries.{balance_in}
 use Rattle.book.specs.Entries.{counted}
 
-first-last : {X : Type 0} (test : X → Bool) (xs : List X) (y : X) → All (λ x. test x ≡ false) xs → test y ≡ true → first_of test (xs ++ y ∷ []) ≡ Some y
+first-last : {X : Type 0} (test : X → Bool) (xs : List X) (y : X) → AllByRecursion (λ x. test x ≡ false) xs → test y ≡ true → first_of test (xs ++ y ∷ []) ≡ Some y
 unfolding first_of
 first-last test [] y none here = cond-true (test y) (Some y) None here
 first-last test (x ∷ xs) y none here = cond-false (test x) (Some x) (first_of test (xs ++ y ∷ [])) none.0 ∙ first-last test xs y none.1 here
@@ -71,7 +71,7 @@ module _ (kind : Kind) (b id m v : ℕ) (low : 1 ≤ m) (high : m ≤ months) (c
       omega (arith, exposures-sum kind id (amended b id m v qs), exposures-sum kind id qs, set-it, swap, old, new, exposure-moved kind q m v long low high closing)
 
   -- a month that has no balance
-  pub lent-posted : (qs : List PlainPosition) → All (λ q. length q.balances ≡ months) qs → is_posted b id m qs ≡ false
+  pub lent-posted : (qs : List PlainPosition) → AllByRecursion (λ q. length q.balances ≡ months) qs → is_posted b id m qs ≡ false
       → exposures (map (lent_by kind) (positions_on id (posted b id m v qs))) ≡ exposures (map (lent_by kind) (positions_on id qs)) + counted kind v
   lent-posted qs long free = by (position_of b id qs) refl free
     where

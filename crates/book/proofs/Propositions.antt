@@ -6,14 +6,14 @@ use mathlib.Core.Logic.{∥∥₁_elim}
 use native.Mathlib.Bridge.{le_prop}
 use native.Mathlib.Nat.{ℕ_set}
 use lib.Dec.{T_prop}
-use Rattle.std.specs.List.{AllByRecursion as All}
+use Rattle.std.specs.List.{AllByRecursion}
 use Rattle.rules.specs.Figures.{WithinLimits}
 use Rattle.rules.specs.declared.figures.Figures.{Figures}
 use Rattle.plain.specs.Kept.{InvesteeInRange, PositionInRange, KeptByEveryRun}
 use Rattle.plain.specs.Lists.{Pairwise}
 use Rattle.plain.specs.PlainBook.{PlainInvestee, PlainPosition, PlainBook}
 
-all_prop : {X : Type 0} (P : X → Type 0) → ((x : X) → IsProp (P x)) → (xs : List X) → IsProp (All P xs)
+all_prop : {X : Type 0} (P : X → Type 0) → ((x : X) → IsProp (P x)) → (xs : List X) → IsProp (AllByRecursion P xs)
 all_prop P each [] = Unit-prop
 all_prop P each (x ∷ xs) = ×_prop (each x) (all_prop P each xs)
 

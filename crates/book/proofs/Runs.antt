@@ -1,6 +1,6 @@
 -- The steps of a run, and what is owed at its end.
 use Rattle.std.proofs.Common.{◌≡◌, ℕ, ◌+◌, ◌-◌, ◌<◌, ◌≤◌, List, [], ◌∷◌, ◌++◌, map, length, get_or, take, drop, set, sym, refl, ap, ◌∙◌, append_assoc, arith}
-use Rattle.std.specs.List.{AllByRecursion as All}
+use Rattle.std.specs.List.{AllByRecursion}
 use Rattle.std.proofs.ByRecursion.{All-append}
 use Rattle.std.proofs.lemmas.List.{map_more, drop_more, set-append_right, length-map, length-take-le}
 use Rattle.rules.specs.Tables.{Tables, Lawful}
@@ -29,7 +29,7 @@ step-within m within (Total id) = tt
 step-within m within (Sheet b) = tt
 step-within m within BookTotal = tt
 
-steps-within : {S : Type 0} (m : S → Meaning) → ((s : S) → WithinLimits (m s)) → (xs : List (Call S)) → All WithinSourceLimits (steps_of m xs)
+steps-within : {S : Type 0} (m : S → Meaning) → ((s : S) → WithinLimits (m s)) → (xs : List (Call S)) → AllByRecursion WithinSourceLimits (steps_of m xs)
 steps-within m within [] = tt
 steps-within m within (x ∷ xs) = (step-within m within x, steps-within m within xs)
 

@@ -1,6 +1,6 @@
 -- A sheet, as the sum of parts over the rows of a book.
 use Rattle.std.proofs.Common.{◌≡◌, ℕ, ◌<◌, ◌≤◌, List, length, get_or, take, sym, ◌∙◌, arith}
-use Rattle.std.specs.List.{AllByRecursion as All}
+use Rattle.std.specs.List.{AllByRecursion}
 use Rattle.std.proofs.ByRecursion.{All-take, All-weaker, All-get_or}
 use Rattle.std.proofs.lemmas.List.{length-take}
 use Rattle.rules.specs.Tables.{Tables}
@@ -30,7 +30,7 @@ module _ (t : Tables) (p : PlainBook) (b : ℕ) where
   abbrev pub row_part : InvesteeRow → Kilograms
   row_part row = part_of t p b (plain_investee row)
 
-  module _ (rows : List InvesteeRow) (all : All (λ row. WithinBook p.positions (plain_investee row)) rows) (k : ℕ) (h : k < length rows) where
+  module _ (rows : List InvesteeRow) (all : AllByRecursion (λ row. WithinBook p.positions (plain_investee row)) rows) (k : ℕ) (h : k < length rows) where
     pub parts-sofar-within : (n : ℕ) (s : Kilograms) → length rows ≤ n → s ≡ summed row_part (take k rows) → AtMostFigures n s
     parts-sofar-within n s few is =
         rw is (summed-within row_part (take k rows) n (omega (arith, length-take k rows)) (All-weaker _ _ (λ row ok. part-figure (plain_investee row) ok) (take k rows) (All-take _ k rows all)))

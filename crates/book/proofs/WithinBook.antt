@@ -1,6 +1,6 @@
 -- That every product of a reading fits, from what a book keeps.
 use Rattle.std.proofs.Common.{◌≡◌, ℕ, ◌+◌, ◌*◌, ◌≤◌, max, List, [], ◌∷◌, map, nat_abs, Some, Ok, Err, Result, sym, subst, arith}
-use Rattle.std.specs.List.{AllByRecursion as All}
+use Rattle.std.specs.List.{AllByRecursion}
 use Rattle.std.proofs.ByRecursion.{All-weaker}
 use Rattle.faults.specs.declared.Refusal.{Refusal}
 use Rattle.rules.specs.Figures.{most_figure}
@@ -67,18 +67,18 @@ within-book p kept id x e = record {
 
 -- ---- each investee of a book
 
-all-viewed : {X Y : Type 0} (P : Y → Type 0) (view : X → Y) (xs : List X) → All P (map view xs) → All (λ x. P (view x)) xs
+all-viewed : {X Y : Type 0} (P : Y → Type 0) (view : X → Y) (xs : List X) → AllByRecursion P (map view xs) → AllByRecursion (λ x. P (view x)) xs
 all-viewed P view [] all = tt
 all-viewed P view (x ∷ xs) all = (all.0, all-viewed P view xs all.1)
 
-pub all-within : (p : PlainBook) → KeptByEveryRun p → All (WithinBook p.positions) p.investees
+pub all-within : (p : PlainBook) → KeptByEveryRun p → AllByRecursion (WithinBook p.positions) p.investees
 all-within p kept =
     All-weaker _ _ (λ x h. record { in_range = h.0; exposure_within_limit = h.1 }) p.investees
     (all_both InvesteeInRange (λ x. exposure_to x p.positions ≤ most_exposure) p.investees kept.investees_in_range kept.exposures_within_limit)
 
 -- as a loop over them reads them
-pub rows-within : (rows : List InvesteeRow) (qs : Positions) → ∥ KeptByEveryRun (plain_rows rows qs) ∥₁ → (read : List InvesteeRow) → read ≡ rows → All (λ row. WithinBook (positions_in qs) (plain_investee row)) read
+pub rows-within : (rows : List InvesteeRow) (qs : Positions) → ∥ KeptByEveryRun (plain_rows rows qs) ∥₁ → (read : List InvesteeRow) → read ≡ rows → AllByRecursion (λ row. WithinBook (positions_in qs) (plain_investee row)) read
 rows-within rows qs held read same =
     let p = plain_rows rows qs in
-    subst (All (λ row. WithinBook (positions_in qs) (plain_investee row))) (sym same)
+    subst (AllByRecursion (λ row. WithinBook (positions_in qs) (plain_investee row))) (sym same)
     (all-viewed (WithinBook p.positions) plain_investee rows (all-within p (kept_of p held)))

@@ -1,6 +1,6 @@
 -- A line reads as its numbers just where it is what they print as.
 use Rattle.std.proofs.Common.{◌≡◌, ℕ, zero, suc, ◌^◌, ◌<◌, true, false, cond, eqb, ltb, List, [], ◌∷◌, ◌++◌, map, length, get_or, Some, None, Ok, Err, decimal, Option, Result, sym, refl, ap, ◌∙◌, subst, ⊎_elim, arith}
-use Rattle.std.specs.List.{AllByRecursion as All}
+use Rattle.std.specs.List.{AllByRecursion}
 use Rattle.std.proofs.lemmas.Bool.{ne_eqb, eq-eqb, cases_eq, cases_lt, lt-ltb, le-ltb, cond-true, cond-false}
 use Rattle.std.proofs.lemmas.Fmt.{digits_decimal}
 use Rattle.std.proofs.lemmas.Str.Parse.{not_in_digits}
@@ -13,7 +13,7 @@ use Rattle.lines.proofs.Numbers.{digits, spells-from-number, number-from-spells}
 
 -- the separator stands nowhere in f
 abbrev pub Free : ℕ → List ℕ → Type 0
-Free sep f = All (λ b. b ≡ sep → ⊥) f
+Free sep f = AllByRecursion (λ b. b ≡ sep → ⊥) f
 
 join-push : (sep b : ℕ) (ps : List (List ℕ)) → join sep (onto b ps) ≡ b ∷ join sep ps
 join-push sep b [] = refl
@@ -51,7 +51,7 @@ pieces_then sep [] rest free = ap (λ t. cond t ([] ∷ pieces sep rest) (onto s
 pieces_then sep (b ∷ f) rest free =
     ap (λ t. cond t ([] ∷ pieces sep (f ++ (sep ∷ rest))) (onto b (pieces sep (f ++ (sep ∷ rest))))) (ne_eqb b sep free.0) ∙ ap (onto b) (pieces_then sep f rest free.1)
 
-pub pieces-join : (sep : ℕ) (f : List ℕ) (fs : List (List ℕ)) → All (Free sep) (f ∷ fs) → pieces sep (join sep (f ∷ fs)) ≡ f ∷ fs
+pub pieces-join : (sep : ℕ) (f : List ℕ) (fs : List (List ℕ)) → AllByRecursion (Free sep) (f ∷ fs) → pieces sep (join sep (f ∷ fs)) ≡ f ∷ fs
 pieces-join sep f [] free = pieces-free sep f free.0
 pieces-join sep f (g ∷ fs) free = pieces_then sep f (join sep (g ∷ fs)) free.0 ∙ ap (λ l. f ∷ l) (pieces-join sep g fs free.1)
 
@@ -62,19 +62,19 @@ free-by-index sep (b ∷ f) h = (λ e. h 0 (omega arith) e, free-by-index sep f 
 pub decimal-free : (n : ℕ) → n < 2 ^ 64 → Free 32 (decimal n)
 decimal-free n fits = free-by-index 32 (decimal n) (not_in_digits digits (decimal n) 32 (digits_decimal digits n fits) (λ h. omega arith))
 
-decimals-free : (ns : List ℕ) → All (λ n. n < 10 ^ 13) ns → All (Free 32) (map decimal ns)
+decimals-free : (ns : List ℕ) → AllByRecursion (λ n. n < 10 ^ 13) ns → AllByRecursion (Free 32) (map decimal ns)
 decimals-free [] small = tt
 decimals-free (n ∷ ns) small = (decimal-free n (omega (arith, small.0)), decimals-free ns small.1)
 
 -- the numbers of fields, both ways
-read-printed : (p : ℕ) (ns : List ℕ) → All (λ n. n < 10 ^ 13) ns → numbers_of (length ns) p (map decimal ns) ≡ Ok (ns, [])
+read-printed : (p : ℕ) (ns : List ℕ) → AllByRecursion (λ n. n < 10 ^ 13) ns → numbers_of (length ns) p (map decimal ns) ≡ Ok (ns, [])
 read-printed p [] small = refl
 read-printed p (n ∷ ns) small =
     ap (λ o. first p o (numbers_of (length ns) (suc p) (map decimal ns))) (number-from-spells (decimal n) n (refl, small.0)) ∙ ap (first p (Some n)) (read-printed (suc p) ns small.1)
 
 pub record Fields (k : ℕ) (ns : List ℕ) (fs : List (List ℕ)) : Type 0 where
   pub count : length ns ≡ k
-  pub small : All (λ n. n < 10 ^ 13) ns
+  pub small : AllByRecursion (λ n. n < 10 ^ 13) ns
   pub spelled : fs ≡ map decimal ns
 
 fields_read : (k p : ℕ) (fs : List (List ℕ)) (ns : List ℕ) → numbers_of k p fs ≡ Ok (ns, []) → Fields k ns fs
@@ -114,7 +114,7 @@ line_read k bs ns h =
     record { count = w.count; digits = w.small; bytes_are = sym (join-pieces 32 bs) ∙ ap (join 32) w.spelled; short = fits })
     (cases_lt 511 (length bs))
 
-split-printed : (ns : List ℕ) → 0 < length ns → All (λ n. n < 10 ^ 13) ns → pieces 32 (printed ns) ≡ map decimal ns
+split-printed : (ns : List ℕ) → 0 < length ns → AllByRecursion (λ n. n < 10 ^ 13) ns → pieces 32 (printed ns) ≡ map decimal ns
 split-printed [] some small = absurd (omega arith)
 split-printed (n ∷ ns) some small = pieces-join 32 (decimal n) (map decimal ns) (decimals-free (n ∷ ns) small)
 

@@ -1,6 +1,6 @@
 -- Lines of numbers as they are printed, and that exactly these are accepted.
 use Rattle.std.specs.Prelude.{◌≡◌, ℕ, ◌-◌, ◌^◌, ◌<◌, ◌≤◌, List, [], ◌∷◌, ◌++◌, map, length, Some, None, Ok, decimal, Option, Result}
-use Rattle.std.specs.List.{between, AllByRecursion as All}
+use Rattle.std.specs.List.{between, AllByRecursion}
 use Rattle.lines.specs.declared.fields.LineError.{LineError}
 use Rattle.lines.specs.Fields.{line_of}
 
@@ -21,7 +21,7 @@ number_line ns = printed ns ++ 10 ∷ []
 -- the bytes are the line of these k numbers
 pub record LineOfNumbers (k : ℕ) (ns bytes : List ℕ) : Type 0 where
   pub count : length ns ≡ k
-  pub digits : All (λ n. n < 10 ^ 13) ns
+  pub digits : AllByRecursion (λ n. n < 10 ^ 13) ns
   pub bytes_are : bytes ≡ printed ns
   pub short : length bytes ≤ 511
 
@@ -32,7 +32,7 @@ AcceptsWhatIsPrinted k bytes r = (ns : List ℕ) → (r ≡ Ok ns → LineOfNumb
 -- numbers that a line can hold
 pub record FitOneLine (ns : List ℕ) : Type 0 where
   pub some_number : 0 < length ns
-  pub digits : All (λ n. n < 10 ^ 13) ns
+  pub digits : AllByRecursion (λ n. n < 10 ^ 13) ns
   pub short : length (printed ns) ≤ 511
 
 -- a line of these numbers that stands in a buffer between two places reads, without its line feed, as these numbers;

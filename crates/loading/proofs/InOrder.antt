@@ -1,7 +1,7 @@
 -- What trying entries comes to, in order.
 use Rattle.std.proofs.Common.{◌≡◌, ℕ, zero, suc, ◌+◌, List, [], ◌∷◌, ◌++◌, map, length, take, drop, Some, None, Ok, Err, Option, Result, sym, refl, ap, ◌∙◌, subst, add-zero, add-suc, suc-add, arith}
 use Rattle.faults.specs.declared.Fault.{Fault}
-use Rattle.std.specs.List.{AllByRecursion as All}
+use Rattle.std.specs.List.{AllByRecursion}
 use Rattle.rules.specs.Tables.{Tables}
 use Rattle.sources.specs.Readings.{WithinLimits}
 use Rattle.sources.specs.Within.{reported-within, physical-within, economic-within, overseas-within, offset-within}
@@ -77,18 +77,18 @@ entry-within e = offset-within e.offsets _ (overseas-within e.overseas _ (method
     method-within (bill terms) = physical-within terms
     method-within (sector_mean output mean) = economic-within output mean
 
-openings-within : (es : List PlainEntry) (rest : List Step) → All WithinSourceLimits rest → All WithinSourceLimits (map opening es ++ rest)
+openings-within : (es : List PlainEntry) (rest : List Step) → AllByRecursion WithinSourceLimits rest → AllByRecursion WithinSourceLimits (map opening es ++ rest)
 openings-within [] rest all = all
 openings-within (e ∷ es) rest all = (entry-within e, openings-within es rest all)
 
-postings-within : (qs : List PostEntry) → All WithinSourceLimits (map posting qs)
+postings-within : (qs : List PostEntry) → AllByRecursion WithinSourceLimits (map posting qs)
 postings-within [] = tt
 postings-within (q ∷ qs) = (tt, postings-within qs)
 
-pub entries-within : (f : PlainPortfolio) → All WithinSourceLimits (entries_of f)
+pub entries-within : (f : PlainPortfolio) → AllByRecursion WithinSourceLimits (entries_of f)
 entries-within f = openings-within f.investees (map posting f.posts) (postings-within f.posts)
 
-all_take : {X : Type 0} (P : X → Type 0) (n : ℕ) (xs : List X) → All P xs → All P (take n xs)
+all_take : {X : Type 0} (P : X → Type 0) (n : ℕ) (xs : List X) → AllByRecursion P xs → AllByRecursion P (take n xs)
 all_take P zero xs all = tt
 all_take P (suc n) [] all = tt
 all_take P (suc n) (x ∷ xs) all = (all.0, all_take P n xs all.1)

@@ -1,6 +1,6 @@
 -- Tables that are not refused.
 use Rattle.std.proofs.Common.{◌≡◌, ℕ, ◌+◌, ◌*◌, ◌≤◌, min, Bool, true, false, cond, ◌&&◌, leb, List, [], ◌∷◌, map, length, is_some, Some, None, sum_by, Option, sym, refl, ◌∙◌, ap₂, ⊎_elim, arith}
-use Rattle.std.specs.List.{prefix_len, AllByRecursion as All}
+use Rattle.std.specs.List.{prefix_len, AllByRecursion}
 use Rattle.std.proofs.lemmas.List.{length-map}
 use Rattle.std.proofs.lemmas.List.Sums.{sum_by-cons, prefix_len-le-length}
 use Rattle.std.proofs.ByRecursion.{sum_by_le, All-weaker}
@@ -30,7 +30,7 @@ worked-within : (x : Item) → acceptable x ≡ true → Within (worked x)
 worked-within x t =
     within_by x (leb 1 x.grade && leb x.grade 5) (kilograms_of x.activity) (λ e. grind (arith, nat_tests)) t
 
-all-within : (xs : List Item) → prefix_len acceptable xs ≡ length xs → All Within (map worked xs)
+all-within : (xs : List Item) → prefix_len acceptable xs ≡ length xs → AllByRecursion Within (map worked xs)
 all-within [] e = tt
 all-within (x ∷ xs) e =
     ⊎_elim
@@ -38,7 +38,7 @@ all-within (x ∷ xs) e =
     (λ f. let z : ◌≡◌ {A = ℕ} 0 1 = grind (arith, f) in absurd (omega arith))
     (cases_Bool (acceptable x))
 
-pub accepted-within : (xs : List Item) → refusal_of xs ≡ None → All Within (map worked xs)
+pub accepted-within : (xs : List Item) → refusal_of xs ≡ None → AllByRecursion Within (map worked xs)
 accepted-within xs e = all-within xs (grind (arith, nat_tests, prefix_len-le-length acceptable xs))
 
 -- 64 items of 10^12 kilograms at most
@@ -48,12 +48,12 @@ sum-small xs e =
     let each = All-weaker Within (λ x. x.kilograms ≤ 1000000000000) (λ x w. w.kilograms) (map worked xs) (accepted-within xs e) in
     omega (arith, sum_by_le (λ (x : Item). x.kilograms) 1000000000000 (map worked xs) each, length-map xs worked)
 
-sum_same : (f g : Item → ℕ) (xs : List Item) → All (λ x. f x ≡ g x) xs → sum_by f xs ≡ sum_by g xs
+sum_same : (f g : Item → ℕ) (xs : List Item) → AllByRecursion (λ x. f x ≡ g x) xs → sum_by f xs ≡ sum_by g xs
 sum_same f g [] h = refl
 sum_same f g (x ∷ xs) h = sum_by-cons f x xs ∙ ap₂ ◌+◌ h.0 (sum_same f g xs h.1) ∙ sym (sum_by-cons g x xs)
 
 -- the limits of the mean's records change nothing
-pub mean-same : (xs : List Item) → All Within xs → mean_of (λ x. min x.kilograms 1000000000000) (λ x. min x.grade 5) xs ≡ mean_of (λ x. x.kilograms) (λ x. x.grade) xs
+pub mean-same : (xs : List Item) → AllByRecursion Within xs → mean_of (λ x. min x.kilograms 1000000000000) (λ x. min x.grade 5) xs ≡ mean_of (λ x. x.kilograms) (λ x. x.grade) xs
 mean-same xs h =
     ap₂ nearest_hundredths
     (sum_same _ _ xs (All-weaker Within _ (λ x w. ap₂ ◌*◌ (weight x w) (grade x w)) xs h))

@@ -1,13 +1,13 @@
 -- What the refusal of a table says of its items.
 use Rattle.std.proofs.Common.{◌≡◌, ℕ, ◌+◌, ◌<◌, ◌≤◌, Bool, true, false, cond, ltb, List, [], ◌∷◌, length, Option, sym, refl, ap, ◌∙◌, subst, inl, inr, ⊎_elim, arith}
-use Rattle.std.specs.List.{prefix_len, AllByRecursion as All}
+use Rattle.std.specs.List.{prefix_len, AllByRecursion}
 use Rattle.std.proofs.lemmas.Bool.{cases_Bool, cases_lt, lt-ltb, le-ltb, cond-true, cond-false}
 use Rattle.faults.specs.declared.Fault.{Fault}
 use Rattle.operations.specs.declared.items.Item.{Item}
 use Rattle.operations.specs.Items.{acceptable}
 use Rattle.operations.specs.Tables.{refusal_of, FirstRefused, RefusedFor}
 
-all-accepted : (xs : List Item) → length xs ≤ prefix_len acceptable xs → All (λ x. acceptable x ≡ true) xs
+all-accepted : (xs : List Item) → length xs ≤ prefix_len acceptable xs → AllByRecursion (λ x. acceptable x ≡ true) xs
 all-accepted [] h = tt
 all-accepted (x ∷ xs) h =
     ⊎_elim

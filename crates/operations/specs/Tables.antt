@@ -1,6 +1,6 @@
 -- What a table of items comes to, and what it then holds.
 use Rattle.std.specs.Prelude.{◌≡◌, ℕ, ◌+◌, ◌<◌, ◌≤◌, true, false, cond, ◌⊎◌, List, ◌∷◌, ◌++◌, map, length, Some, None, Ok, Err, sum_by, Option, Result, nat_lt}
-use Rattle.std.specs.List.{prefix_len, AllByRecursion as All}
+use Rattle.std.specs.List.{prefix_len, AllByRecursion}
 use Rattle.faults.specs.declared.Fault.{Fault}
 use Rattle.faults.specs.declared.Refusal.TheVariants.{OwnItem}
 use Rattle.faults.specs.Refusals.{fault}
@@ -41,13 +41,13 @@ pub record FirstRefused (xs : List Item) (place : ℕ) : Type 0 where
   pub item : Item
   pub rest : List Item
   pub table : xs ≡ before ++ item ∷ rest
-  pub accepted : All (λ x. acceptable x ≡ true) before
+  pub accepted : AllByRecursion (λ x. acceptable x ≡ true) before
   pub refused : acceptable item ≡ false
   pub counted : place ≡ length before + 1
 
 -- what a refusal says of the table, and what it says that there is none
 abbrev pub RefusedFor : List Item → Option Fault → Type 0
-RefusedFor xs None = (length xs ≤ 64) × All (λ x. acceptable x ≡ true) xs
+RefusedFor xs None = (length xs ≤ 64) × AllByRecursion (λ x. acceptable x ≡ true) xs
 RefusedFor xs (Some f) = ((64 < length xs) × (f.place ≡ 0)) ⊎ ((length xs ≤ 64) × FirstRefused xs f.place)
 
 abbrev pub AnsweredFor : List Item → Result Totals Fault → Type 0

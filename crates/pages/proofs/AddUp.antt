@@ -44,8 +44,8 @@ module _ (t : Tables) (p : PlainBook) (b : ℕ) (none : has_position p b ≡ fal
       sum-map (apportionment t p.positions emissions) p.investees (λ a. part a b)
       ∙ sum_same p.investees _ (λ x. pos 0) (λ x. part_none (apportionment t p.positions emissions x) b (no-exposure x)) ∙ sum-zero p.investees
 
-on_line : (t : Tables) (p : PlainBook) (b : ℕ) → on_line (sheet_if_any t p b) ≡ sheet (apportionments t p emissions) b
-on_line t p b = by (has_position p b) refl
+on-line : (t : Tables) (p : PlainBook) (b : ℕ) → on_line (sheet_if_any t p b) ≡ sheet (apportionments t p emissions) b
+on-line t p b = by (has_position p b) refl
   where
     by : (h : Bool) → has_position p b ≡ h → on_line (cond h (Some (sheet_of t p b)) None) ≡ sheet (apportionments t p emissions) b
     by true e = refl
@@ -54,7 +54,7 @@ on_line t p b = by (has_position p b) refl
 module _ (t : Tables) (p : PlainBook) where
   pub branches-add-up : sum_over (sheets_of t p) on_line ≡ (book_total_of t p).all.kilograms.emissions
   branches-add-up =
-      sum-map (sheet_if_any t p) (reverse branches) on_line ∙ sum_same (reverse branches) _ (sheet (apportionments t p emissions)) (on_line t p)
+      sum-map (sheet_if_any t p) (reverse branches) on_line ∙ sum_same (reverse branches) _ (sheet (apportionments t p emissions)) (on-line t p)
       ∙ sum-reversed branches (sheet (apportionments t p emissions)) ∙ sum-swap branches (apportionments t p emissions) (λ b a. part a b)
 
   pub investees-add-up : sum_over (accounts_of t p) (λ a. a.total.kilograms.emissions) ≡ (book_total_of t p).all.kilograms.emissions

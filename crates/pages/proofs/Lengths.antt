@@ -2,7 +2,7 @@
 use Rattle.std.proofs.Common.{◌≡◌, ℕ, zero, suc, ◌+◌, ◌*◌, ◌^◌, ◌<◌, ◌≤◌, Bool, true, false, cond, List, [], ◌∷◌, ◌++◌, map, reverse, length, ℤ, pos, negsuc, nat_abs, Some, None, decimal, Option, refl, ap, ◌∙◌, arith}
 use lib.Signed.{mag}
 use Rattle.std.specs.Fmt.{signed_decimal}
-use Rattle.std.specs.List.{flat_map, AllByRecursion as All}
+use Rattle.std.specs.List.{flat_map, AllByRecursion}
 use Rattle.std.proofs.lemmas.Fmt.{length-decimal-le, length_signed_le}
 use Rattle.std.proofs.ByRecursion.{All-weaker, All-map}
 use Rattle.std.proofs.lemmas.List.{length-append, length-map, length-reverse}
@@ -77,18 +77,18 @@ total-short z h = omega (arith, two (84 ∷ []) (signed_decimal z), sum-short z 
 
 -- ---- all lines
 
-accounts-short : (xs : List InvesteeAccount) → All Short xs → length (flat_map account_line xs) ≤ 30 * length xs
+accounts-short : (xs : List InvesteeAccount) → AllByRecursion Short xs → length (flat_map account_line xs) ≤ 30 * length xs
 accounts-short [] h = omega arith
 accounts-short (a ∷ xs) h = omega (arith, length-append (account_line a) (flat_map account_line xs), account-short a h.0, accounts-short xs h.1)
 
-branches-short : (b : ℕ) (sheets : List (Option Kilograms)) → b + length sheets < 100 → All (λ o. nat_abs (on_line o) ≤ most_investees * most_kilograms) sheets → length (branch_lines b sheets) ≤ 22 * length sheets
+branches-short : (b : ℕ) (sheets : List (Option Kilograms)) → b + length sheets < 100 → AllByRecursion (λ o. nat_abs (on_line o) ≤ most_investees * most_kilograms) sheets → length (branch_lines b sheets) ≤ 22 * length sheets
 branches-short b [] small h = omega arith
 branches-short b (None ∷ sheets) small h = omega (arith, branches-short (suc b) sheets (omega arith) h.1)
 branches-short b (Some k ∷ sheets) small h =
     omega (arith, length-append (branch_line b k) (branch_lines (suc b) sheets), branch-short b k (omega arith) h.0, branches-short (suc b) sheets (omega arith) h.1)
 
 page-short : (xs : List InvesteeAccount) (sheets : List (Option Kilograms)) (z : ℤ) → length xs ≤ most_investees → length sheets ≤ branch_count
-    → All Short xs → All (λ o. nat_abs (on_line o) ≤ most_investees * most_kilograms) sheets → nat_abs z ≤ most_investees * most_kilograms → length (page_of xs sheets z) ≤ room
+    → AllByRecursion Short xs → AllByRecursion (λ o. nat_abs (on_line o) ≤ most_investees * most_kilograms) sheets → nat_abs z ≤ most_investees * most_kilograms → length (page_of xs sheets z) ≤ room
 page-short xs sheets z few some h k m =
     let back = length-append (branch_lines 1 sheets) (total_line z) in
     let middle = length-append (flat_map account_line xs) (branch_lines 1 sheets ++ total_line z) in
@@ -105,7 +105,7 @@ page-short xs sheets z few some h k m =
 
 -- ---- of a book
 
-every : {X : Type 0} (P : X → Type 0) → ((x : X) → P x) → (xs : List X) → All P xs
+every : {X : Type 0} (P : X → Type 0) → ((x : X) → P x) → (xs : List X) → AllByRecursion P xs
 every P h [] = tt
 every P h (x ∷ xs) = (h x, every P h xs)
 
@@ -121,12 +121,12 @@ module _ (t : Tables) (lawful : Lawful t) (p : PlainBook) (kept : KeptByEveryRun
   few : length (apportionments t p emissions) ≤ most_investees
   few = omega (arith, length-map p.investees (apportionment t p.positions emissions), kept.investees_within_limit)
 
-  totals : All (λ a. nat_abs (total a) ≤ most_kilograms) (apportionments t p emissions)
+  totals : AllByRecursion (λ a. nat_abs (total a) ≤ most_kilograms) (apportionments t p emissions)
   totals =
       All-map _ (apportionment t p.positions emissions) p.investees
       (All-weaker _ _ (λ x h. omega (arith, total-within (apportionment t p.positions emissions x) (once_per_branch p kept x), h.kilograms_within_limit)) p.investees kept.investees_in_range)
 
-  parts : (b : ℕ) → All (λ a. nat_abs (part a b) ≤ most_kilograms) (apportionments t p emissions)
+  parts : (b : ℕ) → AllByRecursion (λ a. nat_abs (part a b) ≤ most_kilograms) (apportionments t p emissions)
   parts b =
       All-map _ (apportionment t p.positions emissions) p.investees
       (All-weaker _ _ (λ x h. omega (arith, part-within (apportionment t p.positions emissions x) b, h.kilograms_within_limit)) p.investees kept.investees_in_range)
@@ -153,11 +153,11 @@ module _ (t : Tables) (lawful : Lawful t) (p : PlainBook) (kept : KeptByEveryRun
   }
 
   -- ids are below 2^32, as a program holds them
-  accounts : (xs : List PlainInvestee) → All InvesteeInRange xs → All (λ a. a.id < 2 ^ 32) (map (account_of t p) xs) → All Short (map (account_of t p) xs)
+  accounts : (xs : List PlainInvestee) → AllByRecursion InvesteeInRange xs → AllByRecursion (λ a. a.id < 2 ^ 32) (map (account_of t p) xs) → AllByRecursion Short (map (account_of t p) xs)
   accounts [] range small = tt
   accounts (x ∷ xs) range small = (account x range.0 small.0, accounts xs range.1 small.1)
 
-  pub room-suffices : All (λ a. a.id < 2 ^ 32) (accounts_of t p) → length (page_text t p) ≤ room
+  pub room-suffices : AllByRecursion (λ a. a.id < 2 ^ 32) (accounts_of t p) → length (page_text t p) ≤ room
   unfolding page_text
   room-suffices small =
       page-short (accounts_of t p) (sheets_of t p) (book_total_of t p).all.kilograms.emissions (omega (arith, length-map p.investees (account_of t p), kept.investees_within_limit)) (omega (arith, length-sheets t p))

@@ -1,6 +1,6 @@
 -- A book's page where it was written.
 use Rattle.std.proofs.Common.{◌≡◌, ℕ, ◌+◌, ◌-◌, ◌^◌, ◌<◌, ◌≤◌, List, ◌++◌, length, drop, Some, None, Option, ap, ◌∙◌, subst, zero-add, arith}
-use Rattle.std.specs.List.{AllByRecursion as All}
+use Rattle.std.specs.List.{AllByRecursion}
 use Rattle.rules.specs.Tables.{Tables, Lawful}
 use Rattle.lines.specs.Writing.{Wrote}
 use Rattle.plain.specs.declared.answers.BookTotal.{BookTotal}
@@ -26,15 +26,15 @@ module _ (t : Tables) (lawful : Lawful t) (p : PlainBook) (kept : KeptByEveryRun
   unfolding page_text
   same-page = λ i. page_of (held i) (are-sheets i) (is-total i).all.kilograms.emissions
 
-  within : All (λ a. a.id < 2 ^ 32) (given accounts) → length (page_text t p) ≤ room
-  within ids = room-suffices t lawful p kept (subst (All (λ a. a.id < 2 ^ 32)) held ids)
+  within : AllByRecursion (λ a. a.id < 2 ^ 32) (given accounts) → length (page_text t p) ≤ room
+  within ids = room-suffices t lawful p kept (subst (AllByRecursion (λ a. a.id < 2 ^ 32)) held ids)
 
   pub record Page (buffer after : List ℕ) (end : ℕ) : Type 0 where
     pub bytes : end ≡ length (page_text t p)
     pub buffer-after : after ≡ placed t p buffer
     pub short : end ≤ room
 
-  pub page-written : (buffer after : List ℕ) (end : ℕ) → All (λ a. a.id < 2 ^ 32) (given accounts) → Wrote buffer 0 (page_of (given accounts) sheets total.all.kilograms.emissions) after (Some end) → Page buffer after end
+  pub page-written : (buffer after : List ℕ) (end : ℕ) → AllByRecursion (λ a. a.id < 2 ^ 32) (given accounts) → Wrote buffer 0 (page_of (given accounts) sheets total.all.kilograms.emissions) after (Some end) → Page buffer after end
   page-written buffer after end ids wrote =
       let w = (subst (λ text. Wrote buffer 0 text after (Some end)) same-page wrote).told in
       let long : end ≡ length (page_text t p) = w.0 ∙ zero-add (length (page_text t p)) in
@@ -45,7 +45,7 @@ module _ (t : Tables) (lawful : Lawful t) (p : PlainBook) (kept : KeptByEveryRun
       }
 
   -- 8,192 bytes are never too few
-  pub page-fits : (buffer after : List ℕ) → room ≤ length buffer → All (λ a. a.id < 2 ^ 32) (given accounts) → Wrote buffer 0 (page_of (given accounts) sheets total.all.kilograms.emissions) after None → ⊥
+  pub page-fits : (buffer after : List ℕ) → room ≤ length buffer → AllByRecursion (λ a. a.id < 2 ^ 32) (given accounts) → Wrote buffer 0 (page_of (given accounts) sheets total.all.kilograms.emissions) after None → ⊥
   page-fits buffer after long ids wrote =
       let none = (subst (λ text. Wrote buffer 0 text after None) same-page wrote).told in
       omega (arith, none, within ids)

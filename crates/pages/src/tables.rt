@@ -1,6 +1,6 @@
 // A page, from a table of accounts and a table of sheets.
 ghost use Rattle.std.specs.Prelude.{◌≡◌, ◌+◌, ◌^◌, ◌<◌, ◌≤◌, length};
-ghost use Rattle.std.specs.List.{flat_map, AllByRecursion as All};
+ghost use Rattle.std.specs.List.{flat_map, AllByRecursion};
 ghost use Rattle.lines.specs.Writing.{Wrote};
 ghost use Rattle.pages.specs.Page.{account_line, branch_lines, given, page_of};
 
@@ -10,7 +10,7 @@ use plain::answers::{InvesteeAccount, Kilograms};
 // How many accounts a table holds. Reading an id shows that it has 32 bits, so that a page has room.
 fn held(accounts: &[Option<InvesteeAccount>]) -> u64
     ensures count { result ≡ length (given accounts.now) }
-    ensures ids { All (λ a. a.id < 2 ^ 32) (given accounts.now) }
+    ensures ids { AllByRecursion (λ a. a.id < 2 ^ 32) (given accounts.now) }
 {
     let mut n: u64 = 0;
     for account in accounts {
@@ -69,7 +69,7 @@ pub(crate) fn put_page(
     total: i64,
 ) -> Option<usize>
     ensures page { Wrote buffer.old 0 (page_of (given accounts.now) sheets.now total) buffer.new result }
-    ensures ids { All (λ a. a.id < 2 ^ 32) (given accounts.now) }
+    ensures ids { AllByRecursion (λ a. a.id < 2 ^ 32) (given accounts.now) }
 {
     let at = put_head(buffer, 0, held(accounts))?;
     let at = put_accounts(buffer, at, accounts)?;

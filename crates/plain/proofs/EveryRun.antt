@@ -1,6 +1,6 @@
 -- Every run keeps every kilogram.
 use Rattle.std.proofs.Common.{◌≡◌, ℕ, Bool, true, false, cond, not, eqb, ltb, ◌≢◌, List, [], ◌∷◌, ◌++◌, map, take, ℤ, ◌+ℤ◌, Some, filter, sym, refl, ◌∙◌, subst, ap₂}
-use Rattle.std.specs.List.{AllByRecursion as All}
+use Rattle.std.specs.List.{AllByRecursion}
 use Rattle.std.proofs.ByRecursion.{All-weaker, All-map, All-take, All-append, all_kept_by}
 use Rattle.std.proofs.lemmas.Bool.{eqb-true, le-ltb, or_from}
 use Rattle.rules.specs.Tables.{Tables, Lawful}
@@ -26,11 +26,11 @@ use Rattle.plain.proofs.UnderRule.{above_zero, ruled-at-first, ruled-by-a-call}
 -- ---- the positions on one investee
 
 module _ (kind : Kind) (id : ℕ) where
-  others-lent : (b : ℕ) (qs : List PlainPosition) → All (λ q. q.id ≡ id → q.branch ≢ b) qs → All (λ l. l.branch ≢ b) (map (lent_by kind) (positions_on id qs))
+  others-lent : (b : ℕ) (qs : List PlainPosition) → AllByRecursion (λ q. q.id ≡ id → q.branch ≢ b) qs → AllByRecursion (λ l. l.branch ≢ b) (map (lent_by kind) (positions_on id qs))
   others-lent b [] h = tt
   others-lent b (q ∷ qs) h = by (eqb q.id id) refl (others-lent b qs h.1)
     where
-      by : (t : Bool) → eqb q.id id ≡ t → All (λ l. l.branch ≢ b) (map (lent_by kind) (positions_on id qs)) → All (λ l. l.branch ≢ b) (map (lent_by kind) (cond t (q ∷ positions_on id qs) (positions_on id qs)))
+      by : (t : Bool) → eqb q.id id ≡ t → AllByRecursion (λ l. l.branch ≢ b) (map (lent_by kind) (positions_on id qs)) → AllByRecursion (λ l. l.branch ≢ b) (map (lent_by kind) (cond t (q ∷ positions_on id qs) (positions_on id qs)))
       by true e rest = (h.0 (eqb-true q.id id e), rest)
       by false e rest = rest
 
@@ -52,7 +52,7 @@ once_per_branch p ok x = record {
   branches_differ = lent-differ x.profile.kind (id_of x) p.positions ok.positions_differ;
 }
 
-orderly : (t : Tables) → Lawful t → (p : PlainBook) (m : Measure) → KeptByEveryRun p → All Orderly (apportionments t p m)
+orderly : (t : Tables) → Lawful t → (p : PlainBook) (m : Measure) → KeptByEveryRun p → AllByRecursion Orderly (apportionments t p m)
 orderly t lawful p m ok =
     All-map Orderly (apportionment t p.positions m) p.investees
     (All-weaker _ _ (λ x h. record {
@@ -111,16 +111,16 @@ kilograms-at t lawful p ok m = record {
 
 -- ---- runs
 
-pub kept-by-run : (t : Tables) (p : PlainBook) (calls : List Step) → All WithinSourceLimits calls → KeptByEveryRun p → KeptByEveryRun (run t p calls)
+pub kept-by-run : (t : Tables) (p : PlainBook) (calls : List Step) → AllByRecursion WithinSourceLimits calls → KeptByEveryRun p → KeptByEveryRun (run t p calls)
 kept-by-run t p [] limits ok = ok
 kept-by-run t p (c ∷ calls) limits ok = kept-by-run t (after t p c) calls limits.1 (kept-by-a-call t p c limits.0 ok)
 
-ruled-by-run : (t : Tables) → Lawful t → (p : PlainBook) (calls : List Step) → All WithinSourceLimits calls → KeptByEveryRun p → KeptUnderRule t p → KeptUnderRule t (run t p calls)
+ruled-by-run : (t : Tables) → Lawful t → (p : PlainBook) (calls : List Step) → AllByRecursion WithinSourceLimits calls → KeptByEveryRun p → KeptUnderRule t p → KeptUnderRule t (run t p calls)
 ruled-by-run t lawful p [] limits kept ok = ok
 ruled-by-run t lawful p (c ∷ calls) limits kept ok =
     ruled-by-run t lawful (after t p c) calls limits.1 (kept-by-a-call t p c limits.0 kept) (ruled-by-a-call t lawful p c limits.0 kept ok)
 
-pub at-each-point : (t : Tables) → Lawful t → (p : PlainBook) → KeptByEveryRun p → (calls : List Step) → All WithinSourceLimits calls → AtEachPoint t p calls
+pub at-each-point : (t : Tables) → Lawful t → (p : PlainBook) → KeptByEveryRun p → (calls : List Step) → AllByRecursion WithinSourceLimits calls → AtEachPoint t p calls
 at-each-point t lawful p ok calls limits k =
     let kept = kept-by-run t p (take k calls) (All-take WithinSourceLimits k calls limits) ok in
     record { kept = kept; kilograms = kilograms-at t lawful (run t p (take k calls)) kept }

@@ -1,7 +1,7 @@
 -- What every run keeps: the empty book has it, and each call keeps it.
 use Rattle.std.proofs.Common.{◌≡◌, ℕ, ◌<◌, ◌≤◌, Bool, true, false, cond, eqb, ltb, ◌≢◌, List, [], ◌∷◌, ◌++◌, map, length, pos, ◌≤ℤ◌, is_some, Some, None, Ok, Err, Option, Result, sym, refl, ap, ◌∙◌, subst, ap₂, ⊎_elim, arith}
 use lib.Signed.{lt_z}
-use Rattle.std.specs.List.{AllByRecursion as All}
+use Rattle.std.specs.List.{AllByRecursion}
 use Rattle.std.proofs.ByRecursion.{All-push, All-weaker}
 use Rattle.std.proofs.lemmas.List.{length_push}
 use Rattle.std.proofs.lemmas.Int.{ints}
@@ -43,7 +43,7 @@ kept-at-first = record {
 -- ---- openings
 
 -- an investee without positions has no exposure
-pub no-positions : (id : ℕ) (qs : List PlainPosition) → All (λ q. q.id ≢ id) qs → positions_on id qs ≡ []
+pub no-positions : (id : ℕ) (qs : List PlainPosition) → AllByRecursion (λ q. q.id ≢ id) qs → positions_on id qs ≡ []
 no-positions id [] h = refl
 no-positions id (q ∷ qs) h = by (eqb q.id id) refl (no-positions id qs h.1)
   where
@@ -70,10 +70,10 @@ opened-in-range x r figures limits e = record {
 }
 
 -- a new id is that of no investee and of no position
-other-ids : (id : ℕ) (p : PlainBook) → is_open id p ≡ false → All (λ x. id ≢ id_of x) p.investees
+other-ids : (id : ℕ) (p : PlainBook) → is_open id p ≡ false → AllByRecursion (λ x. id ≢ id_of x) p.investees
 other-ids id p e = All-weaker _ _ (λ x h i. eqb-false (id_of x) id h (sym i)) p.investees (none_passes (has_id id) p.investees e)
 
-pub no-position-yet : (id : ℕ) (p : PlainBook) → KeptByEveryRun p → is_open id p ≡ false → All (λ q. q.id ≢ id) p.positions
+pub no-position-yet : (id : ℕ) (p : PlainBook) → KeptByEveryRun p → is_open id p ≡ false → AllByRecursion (λ q. q.id ≢ id) p.positions
 no-position-yet id p ok e = All-weaker _ _ (λ q h i. both_ways (is_open id p) e (subst (λ j. is_open j p ≡ true) i h)) p.positions ok.positions_on_open_investees
 
 nothing_lent : exposures [] ≤ most_exposure
@@ -138,7 +138,7 @@ kept_read p id change same in_range ok = record {
 
 -- the exposures are within the limit: the investee's own by the test, and the others' as before
 pub exposures-entered : (p : PlainBook) (id : ℕ) (x : PlainInvestee) (qs : List PlainPosition) → KeptByEveryRun p → investee_of id p ≡ Some x → ((j : ℕ) → j ≢ id → positions_on j qs ≡ positions_on j p.positions) → (P : PlainInvestee → ℕ → Type 0)
-    → All (λ y. P y (exposure_to y p.positions)) p.investees → P x (exposure_to x qs) → All (λ y. P y (exposure_to y qs)) p.investees
+    → AllByRecursion (λ y. P y (exposure_to y p.positions)) p.investees → P x (exposure_to x qs) → AllByRecursion (λ y. P y (exposure_to y qs)) p.investees
 exposures-entered p id x qs ok found others P before own =
     All-weaker _ _ each p.investees (all_both _ _ p.investees before (found-by-key id_of p.investees ok.ids_differ))
   where

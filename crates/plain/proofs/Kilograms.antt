@@ -1,6 +1,6 @@
 -- Answers that are worked out as defined gain and lose no kilogram.
 use Rattle.std.proofs.Common.{◌≡◌, ℕ, cond, List, [], ◌∷◌, ℤ, sym, ◌∙◌, subst}
-use Rattle.std.specs.List.{AllByRecursion as All}
+use Rattle.std.specs.List.{AllByRecursion}
 use Rattle.std.proofs.ByRecursion.{All-weaker}
 use Rattle.std.proofs.lemmas.List.Sums.{sum_by-cons}
 use Rattle.plain.specs.Branches.{Branch, branches}
@@ -14,7 +14,7 @@ use Rattle.plain.proofs.Rounding.{no-total-near, totals-near}
 use Rattle.plain.proofs.Sums.{sum-swap, sum-all, sum-branches}
 
 -- the book total of the definitions
-book-near : (all : List Apportionment) → All Orderly all → TotalNearExactSum (counted_in all) (book_total all) (exact_sum all)
+book-near : (all : List Apportionment) → AllByRecursion Orderly all → TotalNearExactSum (counted_in all) (book_total all) (exact_sum all)
 unfolding sum_over sum_of_fractions
 book-near [] ok = no-total-near 1
 book-near (a ∷ all) ok =
@@ -32,20 +32,20 @@ module _ (a : Apportionment) (ok : Orderly a) (part_of : ℕ → ℤ) (total_is 
     total_is_figure_iff_exposures_reach = λ counts n. rw is-total (total-whole a ok counts n);
   }
 
-each : (all : List Apportionment) (part_of : ℕ → ℕ → ℤ) (total_of : ℕ → ℤ) → All Orderly all → All (λ a. (b : ℕ) → Branch b → part_of a.id b ≡ part a b) all → All (λ a. total_of a.id ≡ total a) all
-    → All (λ a. PartsMakeTheTotal a (part_of a.id) (total_of a.id)) all
+each : (all : List Apportionment) (part_of : ℕ → ℕ → ℤ) (total_of : ℕ → ℤ) → AllByRecursion Orderly all → AllByRecursion (λ a. (b : ℕ) → Branch b → part_of a.id b ≡ part a b) all → AllByRecursion (λ a. total_of a.id ≡ total a) all
+    → AllByRecursion (λ a. PartsMakeTheTotal a (part_of a.id) (total_of a.id)) all
 each [] part_of total_of ok parts totals = tt
 each (a ∷ all) part_of total_of ok parts totals =
     (of_one a ok.0 (part_of a.id) (total_of a.id) parts.0 totals.0, each all part_of total_of ok.1 parts.1 totals.1)
 
 -- these answers are what the definitions of parts, totals, sheets and the book total give
 pub record AnsweredAsDefined (all : List Apportionment) (part_of : ℕ → ℕ → ℤ) (total_of : ℕ → ℤ) (sheet_of : ℕ → ℤ) (book_total_is : ℤ) : Type 0 where
-  pub parts : All (λ a. (b : ℕ) → Branch b → part_of a.id b ≡ part a b) all
-  pub totals : All (λ a. total_of a.id ≡ total a) all
+  pub parts : AllByRecursion (λ a. (b : ℕ) → Branch b → part_of a.id b ≡ part a b) all
+  pub totals : AllByRecursion (λ a. total_of a.id ≡ total a) all
   pub sheets : (b : ℕ) → Branch b → sheet_of b ≡ sheet all b
   pub book_total : book_total_is ≡ book_total all
 
-pub kilograms-kept : (all : List Apportionment) → All Orderly all → (part_of : ℕ → ℕ → ℤ) (total_of sheet_of : ℕ → ℤ) (book_total_is : ℤ)
+pub kilograms-kept : (all : List Apportionment) → AllByRecursion Orderly all → (part_of : ℕ → ℕ → ℤ) (total_of sheet_of : ℕ → ℤ) (book_total_is : ℤ)
     → AnsweredAsDefined all part_of total_of sheet_of book_total_is → NoKilogramGainedOrLost all part_of total_of sheet_of book_total_is
 kilograms-kept all ok part_of total_of sheet_of book_total_is as-defined = record {
   of_each_investee = each all part_of total_of ok as-defined.parts as-defined.totals;

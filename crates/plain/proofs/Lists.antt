@@ -1,11 +1,11 @@
 -- Finding and changing one element of a list, and lists without two of a kind.
 use Rattle.std.proofs.Common.{◌≡◌, ℕ, suc, ◌+◌, ◌<◌, ◌≤◌, Bool, true, false, cond, not, eqb, ◌≢◌, List, [], ◌∷◌, ◌++◌, length, get_or, set, is_some, Some, None, filter, sym, refl, ap, ◌∙◌, subst, one-add, arith}
-use Rattle.std.specs.List.{prefix_len, AllByRecursion as All}
+use Rattle.std.specs.List.{prefix_len, AllByRecursion}
 use Rattle.std.proofs.ByRecursion.{All-weaker, All-push}
 use Rattle.std.proofs.lemmas.Bool.{eq-eqb, ne_eqb, cond-true, cond-false}
 use Rattle.plain.specs.Lists.{first_of, change_first, Pairwise}
 
-pub all_both : {X : Type 0} (P Q : X → Type 0) (xs : List X) → All P xs → All Q xs → All (λ x. P x × Q x) xs
+pub all_both : {X : Type 0} (P Q : X → Type 0) (xs : List X) → AllByRecursion P xs → AllByRecursion Q xs → AllByRecursion (λ x. P x × Q x) xs
 all_both P Q [] p q = tt
 all_both P Q (x ∷ xs) p q = ((p.0, q.0), all_both P Q xs p.1 q.1)
 
@@ -20,7 +20,7 @@ first_passes {X} test (x ∷ xs) y e = by (test x) refl e (first_passes test xs 
     by true p e rest = let same : x ≡ y = cc in ap test (sym same) ∙ p
     by false p e rest = rest e
 
-pub first-all : {X : Type 0} (P : X → Type 0) (test : X → Bool) (xs : List X) (y : X) → first_of test xs ≡ Some y → All P xs → P y
+pub first-all : {X : Type 0} (P : X → Type 0) (test : X → Bool) (xs : List X) (y : X) → first_of test xs ≡ Some y → AllByRecursion P xs → P y
 unfolding first_of
 first-all P test [] y e all = let z : ◌≡◌ {A = ℕ} 0 1 = cc in absurd (omega arith)
 first-all {X} P test (x ∷ xs) y e all = by (test x) e (λ h. first-all P test xs y h all.1)
@@ -29,12 +29,12 @@ first-all {X} P test (x ∷ xs) y e all = by (test x) e (λ h. first-all P test 
     by true e rest = let same : x ≡ y = cc in subst P same all.0
     by false e rest = rest e
 
-pub none_passes : {X : Type 0} (test : X → Bool) (xs : List X) → is_some (first_of test xs) ≡ false → All (λ x. test x ≡ false) xs
+pub none_passes : {X : Type 0} (test : X → Bool) (xs : List X) → is_some (first_of test xs) ≡ false → AllByRecursion (λ x. test x ≡ false) xs
 unfolding first_of
 none_passes test [] e = tt
 none_passes {X} test (x ∷ xs) e = by (test x) refl e (none_passes test xs)
   where
-    by : (t : Bool) → test x ≡ t → is_some (cond t (Some x) (first_of test xs)) ≡ false → (is_some (first_of test xs) ≡ false → All (λ x. test x ≡ false) xs) → (test x ≡ false) × All (λ x. test x ≡ false) xs
+    by : (t : Bool) → test x ≡ t → is_some (cond t (Some x) (first_of test xs)) ≡ false → (is_some (first_of test xs) ≡ false → AllByRecursion (λ x. test x ≡ false) xs) → (test x ≡ false) × AllByRecursion (λ x. test x ≡ false) xs
     by true p e rest = let z : ◌≡◌ {A = ℕ} 0 1 = cc in absurd (omega arith)
     by false p e rest = (p, rest e)
 
@@ -48,7 +48,7 @@ still-found {X} test (x ∷ xs) y e = by (test x) e (still-found test xs y)
     by false e rest = rest e
 
 -- each is the first of its own key, where keys differ
-pub found-by-key : {X : Type 0} (key : X → ℕ) (xs : List X) → Pairwise (λ x y. key y ≢ key x) xs → All (λ x. first_of (λ y. eqb (key y) (key x)) xs ≡ Some x) xs
+pub found-by-key : {X : Type 0} (key : X → ℕ) (xs : List X) → Pairwise (λ x y. key y ≢ key x) xs → AllByRecursion (λ x. first_of (λ y. eqb (key y) (key x)) xs ≡ Some x) xs
 unfolding first_of Pairwise
 found-by-key key [] ok = tt
 found-by-key {X} key (x ∷ xs) ok = (
@@ -71,12 +71,12 @@ module _ {X : Type 0} (test : X → Bool) (change : X → X) where
       by true rest = refl
       by false rest = ap suc rest
 
-  pub all-change : (P : X → Type 0) → ((x : X) → test x ≡ true → P x → P (change x)) → (xs : List X) → All P xs → All P (change_first test change xs)
+  pub all-change : (P : X → Type 0) → ((x : X) → test x ≡ true → P x → P (change x)) → (xs : List X) → AllByRecursion P xs → AllByRecursion P (change_first test change xs)
   unfolding change_first
   all-change P keeps [] all = tt
   all-change P keeps (x ∷ xs) all = by (test x) refl (all-change P keeps xs all.1)
     where
-      by : (t : Bool) → test x ≡ t → All P (change_first test change xs) → All P (cond t (change x ∷ xs) (x ∷ change_first test change xs))
+      by : (t : Bool) → test x ≡ t → AllByRecursion P (change_first test change xs) → AllByRecursion P (cond t (change x ∷ xs) (x ∷ change_first test change xs))
       by true e rest = (keeps x e all.0, all.1)
       by false e rest = (all.0, rest)
 
@@ -125,12 +125,12 @@ module _ {X : Type 0} (test : X → Bool) (change : X → X) where
 
 -- ---- one more at the end
 
-pub pairwise-push : {X : Type 0} (R : X → X → Type 0) (xs : List X) (y : X) → Pairwise R xs → All (λ x. R x y) xs → Pairwise R (xs ++ y ∷ [])
+pub pairwise-push : {X : Type 0} (R : X → X → Type 0) (xs : List X) (y : X) → Pairwise R xs → AllByRecursion (λ x. R x y) xs → Pairwise R (xs ++ y ∷ [])
 unfolding Pairwise
 pairwise-push R [] y ok new = (tt, tt)
 pairwise-push R (x ∷ xs) y ok new = (All-push (R x) xs y ok.0 new.0, pairwise-push R xs y ok.1 new.1)
 
-pub change-last : {X : Type 0} (test : X → Bool) (change : X → X) (xs : List X) (y : X) → All (λ x. test x ≡ false) xs → test y ≡ true → change_first test change (xs ++ y ∷ []) ≡ xs ++ change y ∷ []
+pub change-last : {X : Type 0} (test : X → Bool) (change : X → X) (xs : List X) (y : X) → AllByRecursion (λ x. test x ≡ false) xs → test y ≡ true → change_first test change (xs ++ y ∷ []) ≡ xs ++ change y ∷ []
 unfolding change_first
 change-last test change [] y none here = cond-true (test y) _ _ here
 change-last test change (x ∷ xs) y none here = cond-false (test x) _ _ none.0 ∙ ap (λ l. x ∷ l) (change-last test change xs y none.1 here)

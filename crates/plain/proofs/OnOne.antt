@@ -1,7 +1,7 @@
 -- Each position is on one investee.
 use Rattle.std.proofs.Common.{◌≡◌, ℕ, ◌+◌, Bool, true, false, cond, eqb, ◌≢◌, List, [], ◌∷◌, length, is_some, Some, sum_by, sym, refl, ap, ◌∙◌, arith}
 use mathlib.Core.Path.{fun_ext}
-use Rattle.std.specs.List.{AllByRecursion as All}
+use Rattle.std.specs.List.{AllByRecursion}
 use Rattle.std.proofs.ByRecursion.{All-weaker}
 use Rattle.std.proofs.lemmas.List.Sums.{sum_by-cons}
 use Rattle.std.proofs.lemmas.Bool.{eqb-true, eqb-false, eq-eqb, ne_eqb, cond-true, cond-false}
@@ -11,7 +11,7 @@ use Rattle.plain.specs.Lists.{first_of, Pairwise}
 use Rattle.plain.specs.PlainBook.{PlainInvestee, PlainPosition, PlainBook, id_of, has_id}
 use Rattle.plain.specs.Readings.{positions_on_all}
 
-sum-none : {X : Type 0} (f : X → ℕ) (xs : List X) → All (λ x. f x ≡ 0) xs → sum_by f xs ≡ 0
+sum-none : {X : Type 0} (f : X → ℕ) (xs : List X) → AllByRecursion (λ x. f x ≡ 0) xs → sum_by f xs ≡ 0
 sum-none f [] all = refl
 sum-none f (x ∷ xs) all = sum_by-cons f x xs ∙ omega (arith, all.0, sum-none f xs all.1)
 
@@ -37,10 +37,10 @@ one-of-key {X} key n (x ∷ xs) differ found = sum_by-cons (λ x. cond (eqb n (k
         let elsewhere = cond-false {A = ℕ} (eqb n (key x)) 1 0 (ne_eqb n (key x) (λ h. eqb-false (key x) n e (sym h))) in
         omega (arith, elsewhere, rest h)
 
-each_on : (xs : List PlainInvestee) (qs : List PlainPosition) → Pairwise (λ x y. id_of y ≢ id_of x) xs → All (λ q. is_some (first_of (has_id q.id) xs) ≡ true) qs → sum_by (λ x. length (positions_on (id_of x) qs)) xs ≡ length qs
+each_on : (xs : List PlainInvestee) (qs : List PlainPosition) → Pairwise (λ x y. id_of y ≢ id_of x) xs → AllByRecursion (λ q. is_some (first_of (has_id q.id) xs) ≡ true) qs → sum_by (λ x. length (positions_on (id_of x) qs)) xs ≡ length qs
 each_on xs [] differ found = sum-none (λ x. length (positions_on (id_of x) [])) xs (all_none xs)
   where
-    all_none : (xs : List PlainInvestee) → All (λ x. length (positions_on (id_of x) []) ≡ 0) xs
+    all_none : (xs : List PlainInvestee) → AllByRecursion (λ x. length (positions_on (id_of x) []) ≡ 0) xs
     all_none [] = tt
     all_none (x ∷ xs) = (refl, all_none xs)
 each_on xs (q ∷ qs) differ found =

@@ -1,7 +1,7 @@
 -- The parts of one investee: each near its share, and all adding up to the rounded figure of all exposures.
 use Rattle.std.proofs.Common.{◌≡◌, ℕ, ◌+◌, ◌<◌, ◌≤◌, max, Bool, true, false, cond, eqb, ◌≢◌, ◌⊎◌, List, [], ◌∷◌, ℤ, pos, ◌+ℤ◌, ◌-ℤ◌, ◌*ℤ◌, nat_abs, sym, refl, ap, ◌∙◌, ap₂, inl, inr, add-zero, zero-add, arith}
 use lib.IntN.{+ℤ_idr, +ℤ_invr}
-use Rattle.std.specs.List.{AllByRecursion as All}
+use Rattle.std.specs.List.{AllByRecursion}
 use Rattle.std.proofs.lemmas.Bool.{ne_eqb, cond-true, cond-false, cases_lt}
 use Rattle.plain.specs.Branches.{branches, branch_count}
 use Rattle.plain.specs.Fractions.{◌over◌}
@@ -73,12 +73,12 @@ pub part_after : ℤ → ℕ → ℕ → List Lent → ℕ → ℤ
 part_after F B c ls b = rounded F (c + (exposure_before ls b + exposure_at ls b)) B -ℤ rounded F (c + exposure_before ls b) B
 
 -- a branch that has lent nothing
-pub exposure-none : (ls : List Lent) (b : ℕ) → All (λ m. m.branch ≢ b) ls → exposure_at ls b ≡ 0
+pub exposure-none : (ls : List Lent) (b : ℕ) → AllByRecursion (λ m. m.branch ≢ b) ls → exposure_at ls b ≡ 0
 unfolding exposure_at
 exposure-none [] b h = refl
 exposure-none (l ∷ ls) b h = cond-false (eqb l.branch b) _ _ (ne_eqb l.branch b h.0) ∙ exposure-none ls b h.1
 
-part-after-none : (F : ℤ) (B c : ℕ) (ls : List Lent) (b : ℕ) → All (λ m. m.branch ≢ b) ls → part_after F B c ls b ≡ pos 0
+part-after-none : (F : ℤ) (B c : ℕ) (ls : List Lent) (b : ℕ) → AllByRecursion (λ m. m.branch ≢ b) ls → part_after F B c ls b ≡ pos 0
 unfolding part_after
 part-after-none F B c ls b h =
     ap (λ n. rounded F (c + n) B -ℤ rounded F (c + exposure_before ls b) B) (omega (arith, exposure-none ls b h))

@@ -1,7 +1,7 @@
 -- What a post and an amendment leave of the positions.
 use Rattle.std.proofs.Common.{◌≡◌, ℕ, zero, suc, ◌-◌, ◌≤◌, true, false, not, eqb, leb, ◌≢◌, List, [], ◌∷◌, ◌++◌, length, replicate, is_some, Some, None, Option, unwrap_or, sym, refl, ap, ◌∙◌, ⊎_elim, arith, length-set}
 use lib.ListN.{length-replicate}
-use Rattle.std.specs.List.{AllByRecursion as All}
+use Rattle.std.specs.List.{AllByRecursion}
 use Rattle.std.proofs.lemmas.List.Elements.{filter-append}
 use Rattle.std.proofs.ByRecursion.{All-push, All-set, All-weaker}
 use Rattle.std.proofs.lemmas.List.{length_push}
@@ -26,8 +26,8 @@ Differ q r = r.id ≡ q.id → r.branch ≢ q.branch
 
 module _ (b id : ℕ) (qs : List PlainPosition) where
   -- a fact of the positions that a new one has too
-  pub all-with-position : (P : PlainPosition → Type 0) → All P qs → P (new_position b id) → All P (with_position b id qs)
-  all-with-position P old new = cond_both (is_some (position_of b id qs)) _ _ (All P) (λ e. old) (λ e. All-push P qs (new_position b id) old new)
+  pub all-with-position : (P : PlainPosition → Type 0) → AllByRecursion P qs → P (new_position b id) → AllByRecursion P (with_position b id qs)
+  all-with-position P old new = cond_both (is_some (position_of b id qs)) _ _ (AllByRecursion P) (λ e. old) (λ e. All-push P qs (new_position b id) old new)
 
   pub length-with-position : no_room_for b id qs ≡ false → length qs ≤ most_positions → length (with_position b id qs) ≤ most_positions
   length-with-position room few =
@@ -54,7 +54,7 @@ module _ (b id : ℕ) (qs : List PlainPosition) where
       append-none [] = refl
       append-none (r ∷ rs) = ap (λ l. r ∷ l) (append-none rs)
 
-all_replicate : {X : Type 0} (P : X → Type 0) (n : ℕ) (y : X) → P y → All P (replicate n y)
+all_replicate : {X : Type 0} (P : X → Type 0) (n : ℕ) (y : X) → P y → AllByRecursion P (replicate n y)
 all_replicate P zero y h = tt
 all_replicate P (suc n) y h = (h, all_replicate P n y h)
 
@@ -70,7 +70,7 @@ module _ (b id m v : ℕ) where
   pub differ-amended : (qs : List PlainPosition) → Pairwise Differ qs → Pairwise Differ (amended b id m v qs)
   differ-amended qs ok = pairwise-change (is_of b id) (with_balance m v) Differ (λ q r h. h) (λ q r h. h) qs ok
 
-  pub in-range-amended : EntryInRange b m v → (qs : List PlainPosition) → All PositionInRange qs → All PositionInRange (amended b id m v qs)
+  pub in-range-amended : EntryInRange b m v → (qs : List PlainPosition) → AllByRecursion PositionInRange qs → AllByRecursion PositionInRange (amended b id m v qs)
   in-range-amended entry qs all = all-change (is_of b id) (with_balance m v) PositionInRange keeps qs all
     where
       keeps : (q : PlainPosition) → is_of b id q ≡ true → PositionInRange q → PositionInRange (with_balance m v q)
@@ -81,7 +81,7 @@ module _ (b id m v : ℕ) where
       }
 
   -- what holds of branch and id is kept
-  pub all-amended : (P : PlainPosition → Type 0) → ((q : PlainPosition) → P q → P (with_balance m v q)) → (qs : List PlainPosition) → All P qs → All P (amended b id m v qs)
+  pub all-amended : (P : PlainPosition → Type 0) → ((q : PlainPosition) → P q → P (with_balance m v q)) → (qs : List PlainPosition) → AllByRecursion P qs → AllByRecursion P (amended b id m v qs)
   all-amended P keeps qs all = all-change (is_of b id) (with_balance m v) P (λ q e. keeps q) qs all
 
   pub others-amended : (j : ℕ) → j ≢ id → (qs : List PlainPosition) → positions_on j (amended b id m v qs) ≡ positions_on j qs

@@ -1,6 +1,6 @@
 -- How large parts and their sums can become, for the words that an engine keeps them in.
 use Rattle.std.proofs.Common.{ℕ, ◌+◌, ◌*◌, ◌≤◌, Bool, true, false, cond, eqb, List, [], ◌∷◌, length, ℤ, pos, ◌-ℤ◌, nat_abs, arith}
-use Rattle.std.specs.List.{AllByRecursion as All}
+use Rattle.std.specs.List.{AllByRecursion}
 use Rattle.plain.specs.Parts.{Lent, Apportionment, exposures, exposure_at, exposure_before, base, part}
 use Rattle.plain.specs.Rounding.{rounded}
 use Rattle.plain.specs.Sums.{sum_over}
@@ -29,7 +29,7 @@ part-within a b =
     by false c e h = omega arith
 
 -- nor is a sum, for each of its terms
-pub sum-within : {X : Type 0} (xs : List X) (f : X → ℤ) (m : ℕ) → All (λ x. nat_abs (f x) ≤ m) xs → nat_abs (sum_over xs f) ≤ length xs * m
+pub sum-within : {X : Type 0} (xs : List X) (f : X → ℤ) (m : ℕ) → AllByRecursion (λ x. nat_abs (f x) ≤ m) xs → nat_abs (sum_over xs f) ≤ length xs * m
 unfolding sum_over
 sum-within [] f m all = omega arith
 sum-within (x ∷ xs) f m all = omega (arith, size-add (f x) (sum_over xs f), sum-within xs f m all.1, all.0)

@@ -4,7 +4,7 @@ use mathlib.Core.Path.{fun_ext}
 use lib.IntN.{+ℤ_idl, *ℤ-zero}
 use Rattle.std.proofs.lemmas.Bool.{eq-eqb, ne_eqb, cases_eq, cond-true, cond-false}
 use Rattle.plain.specs.Sums.{sum_over, down_from}
-use Rattle.std.specs.List.{AllByRecursion as All}
+use Rattle.std.specs.List.{AllByRecursion}
 use Rattle.plain.specs.Branches.{Branch, branches, branch_count}
 use Rattle.plain.proofs.Integers.{mul-add, linear}
 
@@ -62,12 +62,12 @@ sum-pick (suc n) k x g low high z = by (cases_eq k (suc n)) (sum-pick n k x g lo
         ∙ swap (g (suc n)) x (sum_over (down_from n) g)
 
 -- termwise, for the terms of the list alone
-pub sum-all : {X : Type 0} (xs : List X) (f g : X → ℤ) → All (λ x. f x ≡ g x) xs → sum_over xs f ≡ sum_over xs g
+pub sum-all : {X : Type 0} (xs : List X) (f g : X → ℤ) → AllByRecursion (λ x. f x ≡ g x) xs → sum_over xs f ≡ sum_over xs g
 unfolding sum_over
 sum-all [] f g h = refl
 sum-all (x ∷ xs) f g h = ap₂ ◌+ℤ◌ h.0 (sum-all xs f g h.1)
 
-all-down : (n : ℕ) (P : ℕ → Type 0) → ((b : ℕ) → 0 < b → b ≤ n → P b) → All P (down_from n)
+all-down : (n : ℕ) (P : ℕ → Type 0) → ((b : ℕ) → 0 < b → b ≤ n → P b) → AllByRecursion P (down_from n)
 unfolding down_from
 all-down zero P h = tt
 all-down (suc n) P h = (h (suc n) (omega arith) (omega arith), all-down n P (λ b p q. h b p (omega arith)))

@@ -1,6 +1,6 @@
 -- That no kilogram is gained or lost by any run of any book, under any rule and with any sources.
 use Rattle.std.specs.Prelude.{◌≡◌, ℕ, List, ◌++◌, take, ℤ, pos, ◌+ℤ◌}
-use Rattle.std.specs.List.{AllByRecursion as All}
+use Rattle.std.specs.List.{AllByRecursion}
 use Rattle.rules.specs.Tables.{Tables, Lawful}
 use Rattle.plain.specs.declared.answers.Answer.{Answer}
 use Rattle.plain.specs.declared.answers.Answer.TheVariants.{Done, Declined, Part, Total, Sheet, Book}
@@ -51,14 +51,14 @@ AtEachPoint t p calls = (k : ℕ) → HoldsAt t (run t p (take k calls))
 
 -- at each point of any run that has come to p, and of the calls that follow
 abbrev pub AtEachPointFromTheStart : Tables → PlainBook → List Step → Type 0
-AtEachPointFromTheStart t p calls = (before : List Step) → All WithinSourceLimits before → run t empty before ≡ p → AtEachPoint t empty (before ++ calls)
+AtEachPointFromTheStart t p calls = (before : List Step) → AllByRecursion WithinSourceLimits before → run t empty before ≡ p → AtEachPoint t empty (before ++ calls)
 
 -- some run has come to p
 abbrev pub ReachedByARun : Tables → PlainBook → Type 0
-ReachedByARun t p = (calls : List Step) × All WithinSourceLimits calls × (run t empty calls ≡ p)
+ReachedByARun t p = (calls : List Step) × AllByRecursion WithinSourceLimits calls × (run t empty calls ≡ p)
 
 pub record EveryRunKeepsEveryKilogram : Type 0 where
-  pub from_the_start : (t : Tables) → Lawful t → (calls : List Step) → All WithinSourceLimits calls → AtEachPoint t empty calls
-  pub going_on : (t : Tables) → Lawful t → (p : PlainBook) → KeptByEveryRun p → (calls : List Step) → All WithinSourceLimits calls → AtEachPoint t p calls
-  pub with_its_history : (t : Tables) → Lawful t → (p : PlainBook) (calls : List Step) → All WithinSourceLimits calls → AtEachPointFromTheStart t p calls
+  pub from_the_start : (t : Tables) → Lawful t → (calls : List Step) → AllByRecursion WithinSourceLimits calls → AtEachPoint t empty calls
+  pub going_on : (t : Tables) → Lawful t → (p : PlainBook) → KeptByEveryRun p → (calls : List Step) → AllByRecursion WithinSourceLimits calls → AtEachPoint t p calls
+  pub with_its_history : (t : Tables) → Lawful t → (p : PlainBook) (calls : List Step) → AllByRecursion WithinSourceLimits calls → AtEachPointFromTheStart t p calls
   pub under_its_rule : (t : Tables) → Lawful t → (p : PlainBook) → ReachedByARun t p → KeptUnderRule t p

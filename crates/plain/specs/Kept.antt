@@ -1,7 +1,7 @@
 -- What every run keeps of a plain book, whatever is called, and what it keeps of it under its rule.
 use Rattle.std.specs.Prelude.{◌≡◌, ◌≤◌, true, false, ◌&&◌, ◌≢◌, length, pos, ◌≤ℤ◌, is_ok, unsigned_abs}
 use Rattle.std.specs.Option.{unwrap_or}
-use Rattle.std.specs.List.{AllByRecursion as All}
+use Rattle.std.specs.List.{AllByRecursion}
 use Rattle.rules.specs.Figures.{WithinLimits}
 use Rattle.rules.specs.Months.{months}
 use Rattle.rules.specs.Tables.{Tables, Lawful}
@@ -28,27 +28,27 @@ pub record InvesteeInRange (x : PlainInvestee) : Type 0 where
 pub record PositionInRange (q : PlainPosition) : Type 0 where
   pub branch_in_range : Branch q.branch
   pub a_place_for_each_month : length q.balances ≡ months
-  pub balances_within_limit : All (λ v. unwrap_or v 0 ≤ most_balance) q.balances
+  pub balances_within_limit : AllByRecursion (λ v. unwrap_or v 0 ≤ most_balance) q.balances
 
 pub record KeptByEveryRun (p : PlainBook) : Type 0 where
   pub investees_within_limit : length p.investees ≤ most_investees
   pub positions_within_limit : length p.positions ≤ most_positions
-  pub investees_in_range : All InvesteeInRange p.investees
-  pub positions_in_range : All PositionInRange p.positions
+  pub investees_in_range : AllByRecursion InvesteeInRange p.investees
+  pub positions_in_range : AllByRecursion PositionInRange p.positions
   -- no id is open twice, and every position is on an open investee
   pub ids_differ : Pairwise (λ x y. id_of y ≢ id_of x) p.investees
-  pub positions_on_open_investees : All (λ q. is_open q.id p ≡ true) p.positions
+  pub positions_on_open_investees : AllByRecursion (λ q. is_open q.id p ≡ true) p.positions
   -- a branch has one position on an investee
   pub positions_differ : Pairwise (λ q r. r.id ≡ q.id → r.branch ≢ q.branch) p.positions
-  pub exposures_within_limit : All (λ x. exposure_to x p.positions ≤ most_exposure) p.investees
+  pub exposures_within_limit : AllByRecursion (λ x. exposure_to x p.positions ≤ most_exposure) p.investees
 
 -- under the rule of the run
 pub record KeptUnderRule (t : Tables) (p : PlainBook) : Type 0 where
   -- every investee has a base, and where that is an amount, it is at least 1
-  pub bases_given : All (λ x. is_ok (t.bases x.profile.kind x.profile.figures) ≡ true) p.investees
-  pub amounts_above_zero : All (λ x. AboveZero (denominator_of t x)) p.investees
+  pub bases_given : AllByRecursion (λ x. is_ok (t.bases x.profile.kind x.profile.figures) ≡ true) p.investees
+  pub amounts_above_zero : AllByRecursion (λ x. AboveZero (denominator_of t x)) p.investees
   -- a bond's exposure does not pass its denominator
-  pub bonds_within_denominator : All (λ x. (is_bond x.profile.kind && passes (exposure_to x p.positions) (denominator_of t x)) ≡ false) p.investees
+  pub bonds_within_denominator : AllByRecursion (λ x. (is_bond x.profile.kind && passes (exposure_to x p.positions) (denominator_of t x)) ≡ false) p.investees
 
 -- The empty book has all this, and each call keeps it, accepted or declined.
 pub record KeptByEachCall : Type 0 where

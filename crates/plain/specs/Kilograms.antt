@@ -1,7 +1,7 @@
 -- That no kilogram is gained or lost: how the answers of the four readings lie to the exact shares and to each other.
 -- It is a relation between answers, whoever gives them, and says nothing of how they are found.
 use Rattle.std.specs.Prelude.{◌≡◌, ℕ, ◌≤◌, true, false, cond, ◌≢◌, List, ℤ, pos, unsigned_abs}
-use Rattle.std.specs.List.{AllByRecursion as All}
+use Rattle.std.specs.List.{AllByRecursion}
 use Rattle.plain.specs.Branches.{Branch, branches}
 use Rattle.plain.specs.Parts.{Apportionment, Orderly, exposures, exposure_at, base, share, exact_sum, counted_in, Reached, total}
 use Rattle.plain.specs.Rounding.{rounded, PartNearShare, TotalNearExactSum, TotalIsFigureWhen}
@@ -18,7 +18,7 @@ pub record PartsMakeTheTotal (a : Apportionment) (part_of : ℕ → ℤ) (total_
 
 -- of the whole book: parts and totals by investee, the sheet of each branch, and the book total
 pub record NoKilogramGainedOrLost (all : List Apportionment) (part_of : ℕ → ℕ → ℤ) (total_of : ℕ → ℤ) (sheet_of : ℕ → ℤ) (book_total_is : ℤ) : Type 0 where
-  pub of_each_investee : All (λ a. PartsMakeTheTotal a (part_of a.id) (total_of a.id)) all
+  pub of_each_investee : AllByRecursion (λ a. PartsMakeTheTotal a (part_of a.id) (total_of a.id)) all
   pub parts_add_up_to_sheet : (b : ℕ) → Branch b → sum_over all (λ a. part_of a.id b) ≡ sheet_of b
   pub sheets_add_up_to_book_total : sum_over branches sheet_of ≡ book_total_is
   pub totals_add_up_to_book_total : sum_over all (λ a. total_of a.id) ≡ book_total_is

@@ -1,6 +1,6 @@
 -- Finding and changing one element of a list, and lists without two of a kind.
 use Rattle.std.specs.Prelude.{Bool, cond, List, [], ◌∷◌, Some, None, Option}
-use Rattle.std.specs.List.{AllByRecursion as All}
+use Rattle.std.specs.List.{AllByRecursion}
 
 -- the first that passes a test
 unfoldable pub first_of : {X : Type 0} → (X → Bool) → List X → Option X
@@ -15,4 +15,4 @@ change_first test change (x ∷ xs) = cond (test x) (change x ∷ xs) (x ∷ cha
 -- R holds of every two, the one that stands first taken first
 unfoldable pub Pairwise : {X : Type 0} → (X → X → Type 0) → List X → Type 0
 Pairwise R [] = Unit {0}
-Pairwise R (x ∷ xs) = All (R x) xs × Pairwise R xs
+Pairwise R (x ∷ xs) = AllByRecursion (R x) xs × Pairwise R xs

@@ -5,7 +5,7 @@
 --   share         figure × exposure / base, as an exact fraction
 --   part          the share in whole kilograms, by running sums, so that the parts add up
 use Rattle.std.specs.Prelude.{ℕ, ◌+◌, ◌<◌, ◌≤◌, max, Bool, cond, ◌≢◌, List, [], ◌∷◌, ℤ, pos, ◌-ℤ◌, ◌*ℤ◌, count_by, ◌==◌}
-use Rattle.std.specs.List.{AllByRecursion as All}
+use Rattle.std.specs.List.{AllByRecursion}
 use Rattle.plain.specs.Branches.{Branch, branches}
 use Rattle.plain.specs.Fractions.{Fraction, ◌over◌, sum_of_fractions}
 use Rattle.plain.specs.Lists.{Pairwise}
@@ -104,7 +104,7 @@ book_total all = sum_over all total
 
 -- every branch is one of the lender's, and stands once
 pub record OncePerBranch (ls : List Lent) : Type 0 where
-  pub branches_in_range : All (λ l. Branch l.branch) ls
+  pub branches_in_range : AllByRecursion (λ l. Branch l.branch) ls
   pub branches_differ : Pairwise (λ l m. m.branch ≢ l.branch) ls
 
 abbrev pub AboveZero : Denominator → Type 0

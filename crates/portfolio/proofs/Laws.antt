@@ -1,6 +1,6 @@
 -- A portfolio is read just where the bytes are its text.
 use Rattle.std.proofs.Common.{◌≡◌, ℕ, suc, ◌+◌, ◌^◌, ◌<◌, ◌≤◌, ltb, ◌⊎◌, List, [], ◌∷◌, ◌++◌, map, length, Some, None, Ok, Err, Option, Result, sym, refl, ap, ◌∙◌, subst, ⊎_elim, append_assoc, append-nil, arith}
-use Rattle.std.specs.List.{flat_map, AllByRecursion as All}
+use Rattle.std.specs.List.{flat_map, AllByRecursion}
 use Rattle.std.proofs.lemmas.List.{length-map}
 use Rattle.std.proofs.lemmas.Bool.{cases_lt, lt-ltb, le-ltb, cond-true, cond-false}
 use Rattle.entries.specs.Entries.{PlainEntry, PlainPortfolio}
@@ -26,7 +26,7 @@ use Rattle.portfolio.proofs.Sections.{next-is, Section, section-read, section-gi
 
 -- ---- lines with their line feeds
 
-pieces-fed : (xs : List (List ℕ)) (rest : List ℕ) → All (Free 10) xs → pieces 10 (flat_map fed xs ++ rest) ≡ xs ++ pieces 10 rest
+pieces-fed : (xs : List (List ℕ)) (rest : List ℕ) → AllByRecursion (Free 10) xs → pieces 10 (flat_map fed xs ++ rest) ≡ xs ++ pieces 10 rest
 pieces-fed [] rest free = refl
 pieces-fed (x ∷ xs) rest free =
     ap (pieces 10) (append_assoc (fed x) (flat_map fed xs) rest ∙ append_assoc x (10 ∷ []) (flat_map fed xs ++ rest)) ∙ pieces_then 10 x (flat_map fed xs ++ rest) free.0 ∙ ap (λ l. x ∷ l) (pieces-fed xs rest free.1)
@@ -54,7 +54,7 @@ posts-count [] balances same = refl
 posts-count (k ∷ keys) [] same = absurd (omega arith)
 posts-count (k ∷ keys) (b ∷ balances) same = ap suc (posts-count keys balances (omega arith))
 
-posts-digits : (keys : List Key) (balances : List ℕ) → All KeyFact keys → All BalanceFact balances → All PostDigits (postings keys balances)
+posts-digits : (keys : List Key) (balances : List ℕ) → AllByRecursion KeyFact keys → AllByRecursion BalanceFact balances → AllByRecursion PostDigits (postings keys balances)
 posts-digits [] balances a b = tt
 posts-digits (k ∷ keys) [] a b = tt
 posts-digits (k ∷ keys) (x ∷ balances) a b =
@@ -83,45 +83,45 @@ Short line = length line ≤ 511
 
 -- ---- what holds of each line
 
-shorts : {X : Type 0} (write : X → List ℕ) (P : X → Type 0) (xs : List X) → ((x : X) → P x → Short (write x)) → All P xs → All Short (map write xs)
+shorts : {X : Type 0} (write : X → List ℕ) (P : X → Type 0) (xs : List X) → ((x : X) → P x → Short (write x)) → AllByRecursion P xs → AllByRecursion Short (map write xs)
 shorts write P [] gives all = tt
 shorts write P (x ∷ xs) gives all = (gives x all.0, shorts write P xs gives all.1)
 
-digits_of : (es : List PlainEntry) → All EntryFact es → All InvesteeDigits es
+digits_of : (es : List PlainEntry) → AllByRecursion EntryFact es → AllByRecursion InvesteeDigits es
 digits_of [] all = tt
 digits_of (e ∷ es) all = (all.0.0, digits_of es all.1)
 
-part-one : {X : Type 0} (P : X → Type 0) (xs ys : List X) → All P (xs ++ ys) → All P xs
+part-one : {X : Type 0} (P : X → Type 0) (xs ys : List X) → AllByRecursion P (xs ++ ys) → AllByRecursion P xs
 part-one P [] ys all = tt
 part-one P (x ∷ xs) ys all = (all.0, part-one P xs ys all.1)
 
-part-two : {X : Type 0} (P : X → Type 0) (xs ys : List X) → All P (xs ++ ys) → All P ys
+part-two : {X : Type 0} (P : X → Type 0) (xs ys : List X) → AllByRecursion P (xs ++ ys) → AllByRecursion P ys
 part-two P [] ys all = all
 part-two P (x ∷ xs) ys all = part-two P xs ys all.1
 
-entry-facts : (es : List PlainEntry) → All InvesteeDigits es → All Short (map investee_line es) → All EntryFact es
+entry-facts : (es : List PlainEntry) → AllByRecursion InvesteeDigits es → AllByRecursion Short (map investee_line es) → AllByRecursion EntryFact es
 entry-facts [] digits short = tt
 entry-facts (e ∷ es) digits short = ((digits.0, short.0), entry-facts es digits.1 short.1)
 
-key-facts : (posts : List PostEntry) → All PostDigits posts → All Short (map key_line posts) → All KeyFact (map key_in posts)
+key-facts : (posts : List PostEntry) → AllByRecursion PostDigits posts → AllByRecursion Short (map key_line posts) → AllByRecursion KeyFact (map key_in posts)
 key-facts [] digits short = tt
 key-facts (p ∷ posts) digits short =
     let d = digits.0 in (((d.0, (d.1.0, (d.1.1.0, tt))), short.0), key-facts posts digits.1 short.1)
 
-balance-facts : (posts : List PostEntry) → All PostDigits posts → All Short (map balance_line posts) → All BalanceFact (map balance_in posts)
+balance-facts : (posts : List PostEntry) → AllByRecursion PostDigits posts → AllByRecursion Short (map balance_line posts) → AllByRecursion BalanceFact (map balance_in posts)
 balance-facts [] digits short = tt
 balance-facts (p ∷ posts) digits short = ((digits.0.1.1.1, short.0), balance-facts posts digits.1 short.1)
 
-frees-investees : (es : List PlainEntry) → All InvesteeDigits es → All (Free 10) (map investee_line es)
+frees-investees : (es : List PlainEntry) → AllByRecursion InvesteeDigits es → AllByRecursion (Free 10) (map investee_line es)
 frees-investees [] digits = tt
 frees-investees (e ∷ es) digits = (investee-free e digits.0, frees-investees es digits.1)
 
-frees-keys : (posts : List PostEntry) → All PostDigits posts → All (Free 10) (map key_line posts)
+frees-keys : (posts : List PostEntry) → AllByRecursion PostDigits posts → AllByRecursion (Free 10) (map key_line posts)
 frees-keys [] digits = tt
 frees-keys (p ∷ posts) digits =
     let d = digits.0 in (row-free (p.branch ∷ p.id ∷ p.month ∷ []) (d.0, (d.1.0, (d.1.1.0, tt))), frees-keys posts digits.1)
 
-frees-balances : (posts : List PostEntry) → All PostDigits posts → All (Free 10) (map balance_line posts)
+frees-balances : (posts : List PostEntry) → AllByRecursion PostDigits posts → AllByRecursion (Free 10) (map balance_line posts)
 frees-balances [] digits = tt
 frees-balances (p ∷ posts) digits = (row-free (p.balance ∷ []) digits.0.1.1.1, frees-balances posts digits.1)
 
@@ -173,8 +173,8 @@ module _ (bytes : List ℕ) (fits : length bytes ≤ 65536) (h : Head) (line : L
           all_append Short (map investee_line es) (map key_line f.posts ++ map balance_line f.posts)
               (shorts investee_line EntryFact es (λ e fact. fact.1) a.facts)
               (all_append Short (map key_line f.posts) (map balance_line f.posts)
-              (subst (All Short) (sym (posts-keys keys balances same)) (shorts key_written KeyFact keys (λ k fact. fact.1) b.facts))
-              (subst (All Short) (sym (posts-balances keys balances same)) (shorts balance_written BalanceFact balances (λ x fact. fact.1) c.facts))),
+              (subst (AllByRecursion Short) (sym (posts-keys keys balances same)) (shorts key_written KeyFact keys (λ k fact. fact.1) b.facts))
+              (subst (AllByRecursion Short) (sym (posts-balances keys balances same)) (shorts balance_written BalanceFact balances (λ x fact. fact.1) c.facts))),
         );
         few_investees = omega (arith, a.count, head.investees);
         few_posts = omega (arith, posts, head.posts);
@@ -234,14 +234,14 @@ text-gives bytes f t =
     let n₁ : length first ≡ 0 → ⊥ = some-append (map investee_line f.investees) second n₂ in
     let small : ThirteenDigits (length f.investees ∷ length f.posts ∷ guide_number f.guide ∷ []) = (omega (arith, t.few_investees), (omega (arith, t.few_posts), (guide-small f.guide, tt))) in
     let rest : List (List ℕ) = map key_line f.posts ++ map balance_line f.posts in
-    let free : All (Free 10) (lines_of f) = (
+    let free : AllByRecursion (Free 10) (lines_of f) = (
       row-free (length f.investees ∷ length f.posts ∷ guide_number f.guide ∷ []) small,
       all_append (Free 10) (map investee_line f.investees) rest (frees-investees f.investees t.investee_digits) (all_append (Free 10) (map key_line f.posts) (map balance_line f.posts) (frees-keys f.posts t.post_digits) (frees-balances f.posts t.post_digits)),
     ) in
     let cut : pieces 10 bytes ≡ head_line f ∷ first =
     ap (pieces 10) (t.bytes_are ∙ sym (append-nil (text f))) ∙ pieces-fed (lines_of f) [] free
     ∙ ap (λ l. head_line f ∷ l) (append_assoc (map investee_line f.investees) rest end ∙ ap (λ l. map investee_line f.investees ++ l) (append_assoc (map key_line f.posts) (map balance_line f.posts) end)) in
-    let short_tail : All Short rest = part-two Short (map investee_line f.investees) rest t.short_lines.1 in
+    let short_tail : AllByRecursion Short rest = part-two Short (map investee_line f.investees) rest t.short_lines.1 in
     let head = head-reads (head_line f) h (record { numbers = record { count = refl; digits = small; bytes_are = refl; short = t.short_lines.0 }; investees = t.few_investees; posts = t.few_posts }) in
     let s₁ = section-gives investee_of investee_line EntryFact entry-back (length f.investees) 2 first f.investees second n₂
     (record { split = refl; facts = entry-facts f.investees t.investee_digits (part-one Short (map investee_line f.investees) rest t.short_lines.1); count = refl }) in

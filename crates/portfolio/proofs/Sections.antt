@@ -1,6 +1,6 @@
 -- Sections of lines: what is read is what is written.
 use Rattle.std.proofs.Common.{◌≡◌, ℕ, zero, suc, ◌+◌, ◌≤◌, cond, eqb, leb, ◌⊎◌, List, [], ◌∷◌, ◌++◌, map, length, get_or, Some, None, Ok, Err, Option, Result, sym, refl, ap, ◌∙◌, subst, ⊎_elim, arith}
-use Rattle.std.specs.List.{AllByRecursion as All}
+use Rattle.std.specs.List.{AllByRecursion}
 use Rattle.std.proofs.lemmas.Bool.{cases_Bool, eqb-true, leb-true, le-leb, and_parts, and_from, cond-true, cond-false}
 use Rattle.entries.specs.Entries.{PlainEntry}
 use Rattle.entries.specs.Guides.{guide_number, guide_numbered}
@@ -25,7 +25,7 @@ next-is (p ∷ q ∷ ps) r h = let pair : ◌≡◌ {A = List ℕ × List (List 
 -- n lines that are how the xs are written, and then the pieces qs
 pub record Section {X : Type 0} (write : X → List ℕ) (Fact : X → Type 0) (n : ℕ) (ps : List (List ℕ)) (xs : List X) (qs : List (List ℕ)) : Type 0 where
   pub split : ps ≡ map write xs ++ qs
-  pub facts : All Fact xs
+  pub facts : AllByRecursion Fact xs
   pub count : length xs ≡ n
 
 module _ {X : Type 0} (read : List ℕ → Result X ℕ) (write : X → List ℕ) (Fact : X → Type 0) where
@@ -55,7 +55,7 @@ module _ {X : Type 0} (read : List ℕ → Result X ℕ) (write : X → List ℕ
   before x [] q qs = refl
   before x (y ∷ ys) q qs = refl
 
-  section-over : ((x : X) → Fact x → read (write x) ≡ Ok x) → (l : ℕ) (xs : List X) (q : List ℕ) (qs : List (List ℕ)) → All Fact xs → section_of read (length xs) l (map write xs ++ (q ∷ qs)) ≡ Ok (xs, q ∷ qs)
+  section-over : ((x : X) → Fact x → read (write x) ≡ Ok x) → (l : ℕ) (xs : List X) (q : List ℕ) (qs : List (List ℕ)) → AllByRecursion Fact xs → section_of read (length xs) l (map write xs ++ (q ∷ qs)) ≡ Ok (xs, q ∷ qs)
   section-over back l [] q qs facts = refl
   section-over back l (x ∷ xs) q qs facts =
       ap (λ o. on_line l o (λ line ps. in_front l (read line) (section_of read (length xs) (suc l) ps))) (before (write x) xs q qs)

@@ -1,6 +1,6 @@
 -- The text of a portfolio, and that exactly such texts are read.
 use Rattle.std.specs.Prelude.{◌≡◌, ℕ, ◌≤◌, List, [], ◌∷◌, ◌++◌, map, length, Ok, Result}
-use Rattle.std.specs.List.{flat_map, AllByRecursion as All}
+use Rattle.std.specs.List.{flat_map, AllByRecursion}
 use Rattle.entries.specs.Entries.{PlainEntry, PlainPortfolio}
 use Rattle.entries.specs.Guides.{guide_number}
 use Rattle.entries.specs.declared.investee.PostEntry.{PostEntry}
@@ -39,9 +39,9 @@ PostDigits p = ThirteenDigits (p.branch ∷ p.id ∷ p.month ∷ p.balance ∷ [
 -- the bytes are the text of a portfolio that is within the limits
 pub record IsTextOf (f : PlainPortfolio) (bytes : List ℕ) : Type 0 where
   pub bytes_are : bytes ≡ text f
-  pub investee_digits : All InvesteeDigits f.investees
-  pub post_digits : All PostDigits f.posts
-  pub short_lines : All (λ line. length line ≤ 511) (lines_of f)
+  pub investee_digits : AllByRecursion InvesteeDigits f.investees
+  pub post_digits : AllByRecursion PostDigits f.posts
+  pub short_lines : AllByRecursion (λ line. length line ≤ 511) (lines_of f)
   pub few_investees : length f.investees ≤ 200
   pub few_posts : length f.posts ≤ 1000
   pub short : length bytes ≤ 65536

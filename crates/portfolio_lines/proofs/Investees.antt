@@ -1,6 +1,6 @@
 -- The line of an investee: what is read is what is written.
 use Rattle.std.proofs.Common.{◌≡◌, ℕ, zero, suc, ◌+◌, ◌^◌, ◌<◌, true, eqb, ◌⊎◌, List, [], ◌∷◌, ◌++◌, map, length, get_or, Ok, Err, decimal, sym, refl, ap, ◌∙◌, subst, ⊎_elim, append_assoc, append-nil, arith}
-use Rattle.std.specs.List.{AllByRecursion as All}
+use Rattle.std.specs.List.{AllByRecursion}
 use Rattle.std.proofs.lemmas.Bool.{cases_Bool, eqb-true, cond-true, cond-false}
 use Rattle.std.proofs.lemmas.List.{map-append}
 use Rattle.factors.specs.declared.Activity.{Activity}
@@ -144,7 +144,7 @@ letter-free sep (report a b) below = (λ e. omega arith, tt)
 letter-free sep (bill ts) below = (λ e. omega arith, tt)
 letter-free sep (sector_mean a b) below = (λ e. omega arith, tt)
 
-fields_free : (sep : ℕ) (e : PlainEntry) → sep < 48 → ThirteenDigits (head_numbers e) × ThirteenDigits (method_numbers e.method) → All (Free sep) (investee_fields e)
+fields_free : (sep : ℕ) (e : PlainEntry) → sep < 48 → ThirteenDigits (head_numbers e) × ThirteenDigits (method_numbers e.method) → AllByRecursion (Free sep) (investee_fields e)
 fields_free sep e below small =
     all_append (Free sep) (map decimal (head_numbers e)) ((letter_of e.method ∷ []) ∷ map decimal (method_numbers e.method)) (decimals-free sep (head_numbers e) below small.0) (letter-free sep e.method below, decimals-free sep (method_numbers e.method) below small.1)
 

@@ -1,6 +1,6 @@
 -- Number fields: what is read is what is written.
 use Rattle.std.proofs.Common.{◌≡◌, ℕ, zero, suc, ◌+◌, ◌^◌, ◌<◌, List, [], ◌∷◌, ◌++◌, map, length, get_or, Some, None, Ok, Err, decimal, Option, Result, sym, refl, ap, ◌∙◌, subst, arith}
-use Rattle.std.specs.List.{AllByRecursion as All}
+use Rattle.std.specs.List.{AllByRecursion}
 use Rattle.std.proofs.lemmas.Fmt.{digits_decimal}
 use Rattle.std.proofs.lemmas.Str.Parse.{not_in_digits}
 use Rattle.lines.specs.Fields.{numbers_of, first}
@@ -61,16 +61,16 @@ decimal-free sep n below small =
     let fits : n < 2 ^ 64 = omega arith in
     free-by-index sep (decimal n) (not_in_digits digits (decimal n) sep (digits_decimal digits n fits) (λ h. omega arith))
 
-pub decimals-free : (sep : ℕ) (ns : List ℕ) → sep < 48 → ThirteenDigits ns → All (Free sep) (map decimal ns)
+pub decimals-free : (sep : ℕ) (ns : List ℕ) → sep < 48 → ThirteenDigits ns → AllByRecursion (Free sep) (map decimal ns)
 decimals-free sep [] below small = tt
 decimals-free sep (n ∷ ns) below small = (decimal-free sep n below small.0, decimals-free sep ns below small.1)
 
-pub all_append : {X : Type 0} (P : X → Type 0) (xs ys : List X) → All P xs → All P ys → All P (xs ++ ys)
+pub all_append : {X : Type 0} (P : X → Type 0) (xs ys : List X) → AllByRecursion P xs → AllByRecursion P ys → AllByRecursion P (xs ++ ys)
 all_append P [] ys a b = b
 all_append P (x ∷ xs) ys a b = (a.0, all_append P xs ys a.1 b)
 
 -- fields without a byte, joined by another
-pub join_free : (sep between : ℕ) (fs : List (List ℕ)) → (between ≡ sep → ⊥) → All (Free sep) fs → Free sep (join between fs)
+pub join_free : (sep between : ℕ) (fs : List (List ℕ)) → (between ≡ sep → ⊥) → AllByRecursion (Free sep) fs → Free sep (join between fs)
 join_free sep between [] other free = tt
 join_free sep between (f ∷ []) other free = free.0
 join_free sep between (f ∷ g ∷ fs) other free = all_append (λ b. b ≡ sep → ⊥) f (between ∷ join between (g ∷ fs)) free.0 (other, join_free sep between (g ∷ fs) other free.1)

@@ -1,6 +1,6 @@
 -- The lines that are read are the lines that are written.
 use Rattle.std.proofs.Common.{◌≡◌, ℕ, zero, suc, ◌+◌, ◌<◌, ◌≤◌, ltb, ◌⊎◌, List, [], ◌∷◌, ◌++◌, map, length, get_or, Ok, Err, decimal, Result, sym, refl, ap, ◌∙◌, subst, ⊎_elim, append-nil, arith}
-use Rattle.std.specs.List.{AllByRecursion as All}
+use Rattle.std.specs.List.{AllByRecursion}
 use Rattle.std.proofs.lemmas.Bool.{cases_lt, lt-ltb, le-ltb, cond-true, cond-false}
 use Rattle.lines.specs.Fields.{pieces}
 use Rattle.lines.specs.Render.{join, printed, LineOfNumbers}
@@ -45,7 +45,7 @@ written-done : (ns : List ℕ) (fs gs : List (List ℕ)) → Written ns fs gs �
 written-done ns fs gs w none = w.spelled ∙ ap (λ l. map decimal ns ++ l) none ∙ append-nil (map decimal ns)
 
 -- the fields of a line that is written
-pub split : (f : List ℕ) (fs : List (List ℕ)) (line : List ℕ) → line ≡ join 32 (f ∷ fs) → All (Free 32) (f ∷ fs) → pieces 32 line ≡ f ∷ fs
+pub split : (f : List ℕ) (fs : List (List ℕ)) (line : List ℕ) → line ≡ join 32 (f ∷ fs) → AllByRecursion (Free 32) (f ∷ fs) → pieces 32 line ≡ f ∷ fs
 split f fs line is free = ap (pieces 32) is ∙ pieces-join 32 f fs free
 
 pub row_line : (k : ℕ) (line ns : List ℕ) → number_line k line ≡ Ok ns → LineOfNumbers k ns line

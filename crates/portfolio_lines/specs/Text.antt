@@ -2,7 +2,7 @@
 --   field    a number in decimal without leading zeros, or a letter
 --   line     fields with one space (32) between two of them; its line feed is left out
 use Rattle.std.specs.Prelude.{◌≡◌, ℕ, ◌^◌, ◌<◌, ◌≤◌, List, [], ◌∷◌, ◌++◌, map, length, Ok, decimal, Result}
-use Rattle.std.specs.List.{AllByRecursion as All}
+use Rattle.std.specs.List.{AllByRecursion}
 use Rattle.factors.specs.declared.Activity.{Activity}
 use Rattle.entries.specs.Entries.{PlainMethod, PlainEntry, report, bill, sector_mean}
 use Rattle.lines.specs.Render.{join, LineOfNumbers}
@@ -11,7 +11,7 @@ use Rattle.portfolio_lines.specs.declared.posts.Key.{Key}
 
 -- each number has at most 13 digits
 abbrev pub ThirteenDigits : List ℕ → Type 0
-ThirteenDigits ns = All (λ n. n < 10 ^ 13) ns
+ThirteenDigits ns = AllByRecursion (λ n. n < 10 ^ 13) ns
 
 -- ---- an investee
 

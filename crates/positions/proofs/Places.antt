@@ -1,6 +1,6 @@
 -- Finding a row and changing it, by its place.
 use Rattle.std.proofs.Common.{◌≡◌, ℕ, zero, suc, ◌+◌, ◌<◌, ◌≤◌, Bool, true, false, cond, not, ltb, List, [], ◌∷◌, map, length, get_or, drop, set, is_some, Some, None, Option, sym, refl, ap, ◌∙◌, ⊎_elim, arith}
-use Rattle.std.specs.List.{prefix_len, AllByRecursion as All}
+use Rattle.std.specs.List.{prefix_len, AllByRecursion}
 use Rattle.std.proofs.lemmas.List.{at_drop_more, at_drop_all, length-map, get_or-map, map-set}
 use Rattle.std.proofs.lemmas.Bool.{lt-ltb, le-ltb, ltb-true, ltb-false, not_from_true, not_from_false, cond-true, cond-false, cases_lt}
 use Rattle.plain.specs.Lists.{first_of, change_first}
@@ -96,7 +96,7 @@ first-idle test (x ∷ xs) = one (test x) (first-idle test xs)
     one false e = ap (λ l. x ∷ l) e
 
 -- where none passes, none is changed
-pub change-nowhere : {X : Type 0} (test : X → Bool) (change : X → X) (xs : List X) → All (λ x. test x ≡ false) xs → change_first test change xs ≡ xs
+pub change-nowhere : {X : Type 0} (test : X → Bool) (change : X → X) (xs : List X) → AllByRecursion (λ x. test x ≡ false) xs → change_first test change xs ≡ xs
 unfolding change_first
 change-nowhere test change [] none = refl
 change-nowhere test change (x ∷ xs) none = cond-false (test x) (change x ∷ xs) (x ∷ change_first test change xs) none.0 ∙ ap (λ ys. x ∷ ys) (change-nowhere test change xs none.1)

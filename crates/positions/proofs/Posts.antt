@@ -1,6 +1,6 @@
 -- What a post and an amendment do to the positions of a table.
 use Rattle.std.proofs.Common.{◌≡◌, ℕ, Bool, true, false, cond, not, ◌&&◌, eqb, leb, List, [], ◌∷◌, ◌++◌, length, is_some, Some, None, Option, sym, refl, ap, ◌∙◌}
-use Rattle.std.specs.List.{AllByRecursion as All}
+use Rattle.std.specs.List.{AllByRecursion}
 use Rattle.std.proofs.lemmas.Bool.{eq-eqb, and_from, cond-true, cond-false}
 use Rattle.plain.specs.Changes.{with_position, amended, posted}
 use Rattle.plain.specs.Limits.{most_positions}

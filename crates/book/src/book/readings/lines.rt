@@ -1,6 +1,6 @@
 // What the investees of a book add to its totals, line by line.
 ghost use Rattle.std.specs.Prelude.{◌≡◌, ◌*◌, ◌≤◌, length, replicate};
-ghost use Rattle.std.specs.List.{AllByRecursion as Each};
+ghost use Rattle.std.specs.List.{AllByRecursion};
 ghost use Rattle.plain.specs.Limits.{most_investees, most_positions};
 ghost use Rattle.plain.specs.Readings.{project_kind, hundredths};
 ghost use Rattle.plain.specs.Exposures.{emissions as of_emissions, reductions as of_reductions};
@@ -172,7 +172,7 @@ fn plus(sums: Sums, line: Line) -> Sums
 
 // The lines of a group, added up.
 fn sums_of(group: Group, lines: &[Line]) -> Sums
-    requires { (length lines.now ≤ most_investees) × Each LineWithinLimits lines.now }
+    requires { (length lines.now ≤ most_investees) × AllByRecursion LineWithinLimits lines.now }
     ensures { result ≡ sums_of group lines.now }
 {
     let mut sums = Sums::none();
@@ -196,7 +196,7 @@ fn subtotal_from(sums: Sums) -> Subtotal
 
 // What falls to all branches for a group.
 fn subtotal(group: Group, lines: &[Line]) -> Subtotal
-    requires { (length lines.now ≤ most_investees) × Each LineWithinLimits lines.now }
+    requires { (length lines.now ≤ most_investees) × AllByRecursion LineWithinLimits lines.now }
     ensures { result ≡ subtotal_from (sums_of group lines.now) }
 {
     subtotal_from(sums_of(group, lines))
@@ -204,7 +204,7 @@ fn subtotal(group: Group, lines: &[Line]) -> Subtotal
 
 // The book total of these lines: for projects, for the rest and for all, with one mean grade.
 fn total_from(lines: &[Line]) -> BookTotal
-    requires { (length lines.now ≤ most_investees) × Each LineWithinLimits lines.now }
+    requires { (length lines.now ≤ most_investees) × AllByRecursion LineWithinLimits lines.now }
     ensures { result ≡ book_total_from lines.now }
 {
     BookTotal {

@@ -20,4 +20,4 @@ returns c =
     line_read c.args.line.now (record { place = 1; left = pieces_left c.new.result.separator c.new.result.rest }) _ _ _ c.if-line-gt-MOST_BYTES.false (ap (λ l. record { place = 1; left = l }) c.new.ensures.pieces) c.in_ok-entry.ensures c.in_ok-end.ensures
 
 pub invariant_of-fields : goal.invariant_of-fields
-invariant_of-fields c = (few-fields c.args.line.now _ c.new.ensures.pieces c.if-line-gt-MOST_BYTES.false, tt)
+invariant_of-fields c = record { countable = few-fields c.args.line.now _ c.new.ensures.pieces c.if-line-gt-MOST_BYTES.false }

@@ -4,7 +4,7 @@ use Rattle.portfolio_lines.proofs.counted.Fields.numbers.Goals as goal
 
 -- as many fields fewer as were read
 pub invariant_of-self : goal.invariant_of-self
-invariant_of-self g c = (omega (arith, numbers-count g.row.K _ _ c.in-Ok.ensures, c.args.self.now.countable), tt)
+invariant_of-self g c = record { countable = omega (arith, numbers-count g.row.K _ _ c.in-Ok.ensures, c.args.self.now.countable) }
 
 pub overflow_cast-self : goal.overflow_cast-self
 overflow_cast-self g c = omega (arith, numbers-count g.row.K _ _ c.in-Ok.ensures, c.args.self.now.countable)
@@ -12,8 +12,8 @@ overflow_cast-self g c = omega (arith, numbers-count g.row.K _ _ c.in-Ok.ensures
 pub overflow_add-self : goal.overflow_add-self
 overflow_add-self g c = omega (arith, numbers-count g.row.K _ _ c.in-Ok.ensures, c.args.self.now.countable)
 
-pub invariant-of-self-in-Ok : goal.invariant-of-self-in-Ok
-invariant-of-self-in-Ok g c = (omega (arith, numbers-count g.row.K _ _ c.in-Ok.ensures, c.args.self.now.countable), tt)
+pub invariant_of-self-in-Ok : goal.invariant_of-self-in-Ok
+invariant_of-self-in-Ok g c = record { countable = omega (arith, numbers-count g.row.K _ _ c.in-Ok.ensures, c.args.self.now.countable) }
 
 pub overflow_cast-result : goal.overflow_cast-result
 overflow_cast-result g c = omega (arith, numbers-wrong g.row.K _ _ c.in-Err.ensures, c.index.ensures, c.args.self.now.countable)
