@@ -12,9 +12,6 @@ overflow_cast-self g c = omega (arith, numbers-count g.row.K _ _ c.in-Ok.ensures
 pub overflow_add-self : goal.overflow_add-self
 overflow_add-self g c = omega (arith, numbers-count g.row.K _ _ c.in-Ok.ensures, c.args.self.now.countable)
 
-pub invariant_of-self-in-Ok : goal.invariant_of-self-in-Ok
-invariant_of-self-in-Ok g c = record { countable = omega (arith, numbers-count g.row.K _ _ c.in-Ok.ensures, c.args.self.now.countable) }
-
 pub overflow_cast-result : goal.overflow_cast-result
 overflow_cast-result g c = omega (arith, numbers-wrong g.row.K _ _ c.in-Err.ensures, c.index.ensures, c.args.self.now.countable)
 
