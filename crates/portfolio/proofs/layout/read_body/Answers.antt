@@ -8,29 +8,29 @@ use Rattle.portfolio.proofs.layout.read_body.Goals as goal
 abbrev pieces_of : Pieces → List (List ℕ)
 pieces_of p = pieces_left p.separator p.rest
 
-pub returns-in-err-check-lines : goal.returns-in-err-check-lines
-returns-in-err-check-lines c =
-    let p = err_from_is_err_and c.from-residual.result c.from-residual.ensures.1 in
-    rw (p.1, p.2) (record { value = stopped-first c.args.head (pieces_of c.args.lines) c.in-err-check-lines.field-0.0 c.in-err-check-lines.ensures; counts = tt })
+pub returns-in_err-check_lines : goal.returns-in_err-check_lines
+returns-in_err-check_lines c =
+    let p = err_from_is_err_and c.from_residual.result c.from_residual.ensures.1 in
+    rw (p.1, p.2) (record { value = stopped-first c.args.head (pieces_of c.args.lines) c.in_err-check_lines.field-0.0 c.in_err-check_lines.ensures; counts = tt })
 
-pub returns-in-err-check-lines-2 : goal.returns-in-err-check-lines-2
-returns-in-err-check-lines-2 c =
-    let p = err_from_is_err_and c.from-residual-in-err-check-lines-2.result c.from-residual-in-err-check-lines-2.ensures.1 in
-    rw (p.1, p.2) (record { value = stopped-second c.args.head (pieces_of c.args.lines) (pieces_of c.check-lines.new.lines) c.in-ok-check-lines.ensures c.in-err-check-lines-2.field-0.0 c.in-err-check-lines-2.ensures; counts = tt })
+pub returns-in_err-check_lines-2 : goal.returns-in_err-check_lines-2
+returns-in_err-check_lines-2 c =
+    let p = err_from_is_err_and c.from_residual-in_err-check_lines-2.result c.from_residual-in_err-check_lines-2.ensures.1 in
+    rw (p.1, p.2) (record { value = stopped-second c.args.head (pieces_of c.args.lines) (pieces_of c.check_lines.new.lines) c.in_ok-check_lines.ensures c.in_err-check_lines-2.field-0.0 c.in_err-check_lines-2.ensures; counts = tt })
 
-pub returns-in-err-check-lines-3 : goal.returns-in-err-check-lines-3
-returns-in-err-check-lines-3 c =
-    let p = err_from_is_err_and c.from-residual-in-err-check-lines-3.result c.from-residual-in-err-check-lines-3.ensures.1 in
-    rw (p.1, p.2) (record { value = stopped-third c.args.head (pieces_of c.args.lines) (pieces_of c.check-lines.new.lines) c.in-ok-check-lines.ensures (pieces_of c.check-lines-2.new.lines) c.in-ok-check-lines-2.ensures c.in-err-check-lines-3.field-0.0 c.in-err-check-lines-3.ensures; counts = tt })
+pub returns-in_err-check_lines-3 : goal.returns-in_err-check_lines-3
+returns-in_err-check_lines-3 c =
+    let p = err_from_is_err_and c.from_residual-in_err-check_lines-3.result c.from_residual-in_err-check_lines-3.ensures.1 in
+    rw (p.1, p.2) (record { value = stopped-third c.args.head (pieces_of c.args.lines) (pieces_of c.check_lines.new.lines) c.in_ok-check_lines.ensures (pieces_of c.check_lines-2.new.lines) c.in_ok-check_lines-2.ensures c.in_err-check_lines-3.field-0.0 c.in_err-check_lines-3.ensures; counts = tt })
 
-pub returns-in-err-check-end : goal.returns-in-err-check-end
-returns-in-err-check-end c =
-    let p = err_from_is_err_and c.from-residual-in-err-check-end.result c.from-residual-in-err-check-end.ensures.1 in
-    rw (p.1, p.2) (record { value = stopped-last c.args.head (pieces_of c.args.lines) (pieces_of c.check-lines.new.lines) c.in-ok-check-lines.ensures (pieces_of c.check-lines-2.new.lines) c.in-ok-check-lines-2.ensures (pieces_of c.check-lines-3.new.lines) c.in-ok-check-lines-3.ensures c.in-err-check-end.field-0.0 c.in-err-check-end.ensures; counts = tt })
+pub returns-in_err-check_end : goal.returns-in_err-check_end
+returns-in_err-check_end c =
+    let p = err_from_is_err_and c.from_residual-in_err-check_end.result c.from_residual-in_err-check_end.ensures.1 in
+    rw (p.1, p.2) (record { value = stopped-last c.args.head (pieces_of c.args.lines) (pieces_of c.check_lines.new.lines) c.in_ok-check_lines.ensures (pieces_of c.check_lines-2.new.lines) c.in_ok-check_lines-2.ensures (pieces_of c.check_lines-3.new.lines) c.in_ok-check_lines-3.ensures c.in_err-check_end.field-0.0 c.in_err-check_end.ensures; counts = tt })
 
 pub returns : goal.returns
 returns c =
     record {
-      value = body-read c.args.head (pieces_of c.args.lines) (pieces_of c.check-lines.new.lines) c.in-ok-check-lines.ensures (pieces_of c.check-lines-2.new.lines) c.in-ok-check-lines-2.ensures (pieces_of c.check-lines-3.new.lines) c.in-ok-check-lines-3.ensures c.in-ok-check-end.field-0 c.in-ok-check-end.ensures;
-      counts = body-counts c.args.head (pieces_of c.args.lines) (pieces_of c.check-lines.new.lines) c.in-ok-check-lines.ensures (pieces_of c.check-lines-2.new.lines) c.in-ok-check-lines-2.ensures (pieces_of c.check-lines-3.new.lines) c.in-ok-check-lines-3.ensures;
+      value = body-read c.args.head (pieces_of c.args.lines) (pieces_of c.check_lines.new.lines) c.in_ok-check_lines.ensures (pieces_of c.check_lines-2.new.lines) c.in_ok-check_lines-2.ensures (pieces_of c.check_lines-3.new.lines) c.in_ok-check_lines-3.ensures c.in_ok-check_end.field-0 c.in_ok-check_end.ensures;
+      counts = body-counts c.args.head (pieces_of c.args.lines) (pieces_of c.check_lines.new.lines) c.in_ok-check_lines.ensures (pieces_of c.check_lines-2.new.lines) c.in_ok-check_lines-2.ensures (pieces_of c.check_lines-3.new.lines) c.in_ok-check_lines-3.ensures;
     }

@@ -2,4 +2,4 @@ use Rattle.portfolio.proofs.Steps.{line-ended}
 use Rattle.portfolio.proofs.section.next_line.Goals as goal
 
 pub returns : goal.returns
-returns c = line-ended _ c.in-ok-line.line.now c.next.new.self.separator c.next.new.self.rest c.in-ok-line.ensures.step c.if-is-none.ensures
+returns c = line-ended _ c.in_ok-line.line.now c.next.new.self.separator c.next.new.self.rest c.in_ok-line.ensures.step c.if-is_none.ensures
