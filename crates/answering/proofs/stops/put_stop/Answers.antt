@@ -5,22 +5,22 @@ use Rattle.lines.proofs.Writes.{left-all, left-put, left-put-last, left-put-stop
 use Rattle.answering.specs.Stops.{stop_numbers}
 use Rattle.answering.proofs.stops.put_stop.Goals as goal
 
-pub returns-in-err-at : goal.returns-in-err-at
-returns-in-err-at c =
-    let letter = c.in-err-at.ensures in
+pub returns-in_err-at : goal.returns-in_err-at
+returns-in_err-at c =
+    let letter = c.in_err-at.ensures in
     record {
-      line = left-put-stop (88 ∷ 32 ∷ []) _ (left-all _ _ _) c.from-residual.ensures letter.place letter.buffer;
-      fits = c.stop-numbers-numbers.ensures.fits;
+      line = left-put-stop (88 ∷ 32 ∷ []) _ (left-all _ _ _) c.from_residual.ensures letter.place letter.buffer;
+      fits = c.stop_numbers-numbers.ensures.fits;
     }
 
 pub returns : goal.returns
 returns c =
-    let letter = c.in-ok-at.ensures in
-    let last = c.put-numbers.ensures in
-    let is = c.stop-numbers-numbers.ensures.value in
+    let letter = c.in_ok-at.ensures in
+    let last = c.put_numbers.ensures in
+    let is = c.stop_numbers-numbers.ensures.value in
     record {
       line = left-put-last (number_line (stop_numbers c.args.stop)) (left-put (88 ∷ 32 ∷ []) _ (left-all _ _ _) letter.place letter.buffer)
-          (last.place ∙ ap (λ ns. place_after c.put.new.buffer c.in-ok-at.at (number_line ns)) is)
-          (last.buffer ∙ ap (λ ns. written c.put.new.buffer c.in-ok-at.at (number_line ns)) is);
-      fits = c.stop-numbers-numbers.ensures.fits;
+          (last.place ∙ ap (λ ns. place_after c.put.new.buffer c.in_ok-at.at (number_line ns)) is)
+          (last.buffer ∙ ap (λ ns. written c.put.new.buffer c.in_ok-at.at (number_line ns)) is);
+      fits = c.stop_numbers-numbers.ensures.fits;
     }

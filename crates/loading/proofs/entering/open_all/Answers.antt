@@ -29,7 +29,7 @@ loop-entry-preserved g c =
     let given = entry-given _ _ _ c.in-Some.ensures in
     let step = opening given.entry in (
       entering-more opening _ _ _ _ t c.loop-entry.line p _ c.loop-entry.invariant.0 given.entry _ _ _ given.first
-          (done-accepted t p step c.in-default-open.field-0 refl (c.in-default-open.ensures.told ∙ ap (answer t p) given.opens))
+          (done-accepted t p step c.in_default-open.field-0 refl (c.in_default-open.ensures.told ∙ ap (answer t p) given.opens))
           (c.open.ensures.book ∙ ap (after t p) given.opens) (ap (λ r. g.R.Rule.tables r.now) c.open.ensures.rule),
       c.open.ensures.rule ∙ c.loop-entry.invariant.1,
     )
@@ -37,8 +37,8 @@ loop-entry-preserved g c =
 pub returns : goal.returns
 returns g c =
     record {
-      tried = entering-all opening _ _ _ _ _ _ _ _ c.loop-entry.invariant.0 (no-entry-given _ _ c.in-default.ensures);
-      next = entering-lines opening _ _ _ _ _ _ _ _ c.loop-entry.invariant.0 (no-entry-given _ _ c.in-default.ensures);
+      tried = entering-all opening _ _ _ _ _ _ _ _ c.loop-entry.invariant.0 (no-entry-given _ _ c.in_default.ensures);
+      next = entering-lines opening _ _ _ _ _ _ _ _ c.loop-entry.invariant.0 (no-entry-given _ _ c.in_default.ensures);
       rule = c.loop-entry.invariant.1;
     }
 

@@ -27,7 +27,7 @@ loop-entry-preserved g c =
     let given = post-given _ _ _ c.in-Some.ensures in
     let step = posting c.in-Some.entry in (
       entering-more posting _ _ _ _ t c.loop-entry.line p _ c.loop-entry.invariant.0 c.in-Some.entry _ _ _ given
-          (done-accepted t p step c.in-default-post.field-0 refl c.in-default-post.ensures.told)
+          (done-accepted t p step c.in_default-post.field-0 refl c.in_default-post.ensures.told)
           c.post.ensures.book (ap (λ r. g.R.Rule.tables r.now) c.post.ensures.rule),
       c.post.ensures.rule ∙ c.loop-entry.invariant.1,
     )
@@ -35,7 +35,7 @@ loop-entry-preserved g c =
 pub returns : goal.returns
 returns g c =
     record {
-      tried = entering-all posting _ _ _ _ _ _ _ _ c.loop-entry.invariant.0 (no-post-given _ _ c.in-default.ensures);
+      tried = entering-all posting _ _ _ _ _ _ _ _ c.loop-entry.invariant.0 (no-post-given _ _ c.in_default.ensures);
       rule = c.loop-entry.invariant.1;
     }
 

@@ -5,22 +5,22 @@ use Rattle.portfolio.specs.Text.{AcceptsTexts}
 use Rattle.loading.specs.Loading.{entered_from}
 use Rattle.loading.proofs.loading.load_bytes.Goals as goal
 
-pub load-portfolio-requires : goal.load-portfolio-requires
-load-portfolio-requires c =
+pub load_portfolio-requires : goal.load_portfolio-requires
+load_portfolio-requires c =
     let is = (c.in-Ok.ensures.texts (plain_portfolio c.in-Ok.portfolio)).0 refl in
     omega (arith, is.few_investees, is.few_posts)
 
-pub returns-in-err-load-portfolio : goal.returns-in-err-load-portfolio
-returns-in-err-load-portfolio c =
+pub returns-in_err-load_portfolio-in-Ok : goal.returns-in_err-load_portfolio-in-Ok
+returns-in_err-load_portfolio-in-Ok c =
     record {
-      loaded = IfOk-from_err c.from-residual.result _ c.from-residual.ensures.0;
+      loaded = IfOk-from_err c.from_residual.result _ c.from_residual.ensures.0;
       texts = subst (AcceptsTexts c.args.bytes.now) c.in-Ok.ensures.value c.in-Ok.ensures.texts;
     }
 
-pub returns-in-ok-load-portfolio : goal.returns-in-ok-load-portfolio
-returns-in-ok-load-portfolio c =
+pub returns-in_ok-load_portfolio-in-Ok : goal.returns-in_ok-load_portfolio-in-Ok
+returns-in_ok-load_portfolio-in-Ok c =
     record {
-      loaded = ap Ok c.in-ok-load-portfolio.ensures ∙ ap entered_from c.in-Ok.ensures.value;
+      loaded = ap Ok c.in_ok-load_portfolio-in-Ok.ensures ∙ ap entered_from c.in-Ok.ensures.value;
       texts = subst (AcceptsTexts c.args.bytes.now) c.in-Ok.ensures.value c.in-Ok.ensures.texts;
     }
 
