@@ -61,13 +61,13 @@ abbrev pub field_message : ℕ → List ℕ → List ℕ
 field_message n name = codes "line " ++ (decimal n ++ (codes ": the " ++ (name ++ codes " is not a number of 1 to 13 digits without leading zeros")))
 
 abbrev pub line_message : ℕ → LineError → List ℕ
-line_message n line.TooLong = about_line n (codes "longer than 512 bytes")
-line_message n (line.Field i) = field_message n (field_name i)
-line_message n line.Surplus = about_line n (codes "more than the three fields row, quantity and grade")
+line_message n line.TooLong = codes "line " ++ (decimal n ++ codes ": longer than 512 bytes")
+line_message n (line.Field i) = codes "line " ++ (decimal n ++ (codes ": the " ++ (field_name i ++ codes " is not a number of 1 to 13 digits without leading zeros")))
+line_message n line.Surplus = codes "line " ++ (decimal n ++ codes ": more than the three fields row, quantity and grade")
 
 abbrev pub message_of : Malformed → List ℕ
 message_of TooLong = codes "the bill is longer than 65536 bytes"
-message_of (Unended n) = about_line n (codes "not ended by a line feed")
+message_of (Unended n) = codes "line " ++ (decimal n ++ codes ": not ended by a line feed")
 message_of (Line n e) = line_message n e
 
 -- what is printed of a table that was worked out
