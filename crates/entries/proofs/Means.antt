@@ -1,5 +1,5 @@
 -- An entry as a program holds it means what the entry means.
-use Rattle.std.proofs.Common.{◌≡◌, ℕ, ◌<◌, ◌≤◌, min, Bool, true, false, cond, ◌||◌, eqb, ltb, List, ◌++◌, length, take, replicate, Err, Result, sym, refl, ap, ◌∙◌, arith}
+use Rattle.std.proofs.Common.{◌≡◌, ℕ, ◌<◌, ◌≤◌, min, Bool, true, false, cond, ◌||◌, eqb, ltb, List, ◌++◌, length, take, replicate, Err, sym, refl, ap, ◌∙◌, arith}
 use Rattle.std.proofs.lemmas.List.{take-append-le, take-take, take_all, length-take-le}
 use Rattle.std.proofs.lemmas.Bool.{lt-ltb, ltb-true, ltb-false}
 use Rattle.factors.specs.declared.Activity.{Activity}
@@ -8,8 +8,8 @@ use Rattle.faults.specs.declared.Refusal.TheVariants.{TermCount}
 use Rattle.sources.specs.Bottoms.{physical_meaning}
 use Rattle.sources.specs.Layers.{overseas_meaning, offset_meaning}
 use Rattle.sources.specs.Limits.{most_terms, physical_number}
-use Rattle.entries.specs.Bills.{bill_of, terms_in, most_held, no_term}
-use Rattle.entries.specs.Entries.{PlainMethod, PlainEntry, report, bill, sector_mean, method_meaning, entry_meaning, held_method, held_entry}
+use Rattle.entries.specs.Bills.{most_held, no_term}
+use Rattle.entries.specs.Entries.{PlainMethod, PlainEntry, report, bill, sector_mean, method_meaning, entry_meaning, held_method}
 use Rattle.entries.specs.Methods.{held_meaning}
 
 -- a table of n places that was filled from a list holds the front of the list

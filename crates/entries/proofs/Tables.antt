@@ -1,7 +1,6 @@
 -- A list in a table of n places, the rest of which is empty, and one more element.
-use Rattle.std.proofs.Common.{◌≡◌, ℕ, zero, suc, ◌+◌, ◌<◌, ◌≤◌, min, List, [], ◌∷◌, ◌++◌, length, take, set, replicate, sym, refl, ap, ◌∙◌, append_assoc, arith}
+use Rattle.std.proofs.Common.{◌≡◌, ℕ, zero, suc, ◌+◌, ◌<◌, ◌≤◌, List, [], ◌∷◌, ◌++◌, length, take, set, replicate, sym, refl, ap, ◌∙◌, append_assoc, arith}
 use lib.Seq.{take-append-le}
-use Rattle.std.proofs.lemmas.List.{length-append}
 
 take-empty : {X : Type 0} (z : X) (n k l : ℕ) → n ≤ k → n ≤ l → take n (replicate k z) ≡ take n (replicate l z)
 take-empty z zero k l p q = refl

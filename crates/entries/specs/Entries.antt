@@ -2,17 +2,15 @@
 --   method    how an investee's emissions are found, with its numbers
 --   entry     an investee to be opened; its source is the offset layer over the overseas cut over the method
 --   posting   a month's balance of a branch on an investee
-use Rattle.std.specs.Prelude.{◌≡◌, ℕ, List, Result}
+use Rattle.std.specs.Prelude.{ℕ, List, Result}
 use Rattle.factors.specs.declared.Activity.{Activity}
 use Rattle.faults.specs.declared.Fault.{Fault}
 use Rattle.rules.specs.declared.investees.InvesteeFields.{InvesteeFields}
 use Rattle.sources.specs.Bottoms.{reported_meaning, physical_meaning, economic_meaning}
 use Rattle.sources.specs.Layers.{overseas_meaning, offset_meaning}
-use Rattle.sources.specs.declared.economic.Economic.{Economic}
 use Rattle.sources.specs.declared.offset.OffsetFigures.{OffsetFigures}
 use Rattle.sources.specs.declared.overseas.OverseasFigures.{OverseasFigures}
 use Rattle.sources.specs.declared.reading.Reading.{Reading}
-use Rattle.sources.specs.declared.reported.Reported.{Reported}
 use Rattle.entries.specs.Bills.{bill_of}
 use Rattle.entries.specs.declared.guide.Guide.{Guide}
 use Rattle.entries.specs.declared.investee.InvesteeEntry.{InvesteeEntry}

@@ -19,7 +19,7 @@ use Rattle.plain.specs.Steps.{Step, WithinSourceLimits}
 use Rattle.portfolio.specs.Layout.{layout_of}
 use Rattle.portfolio.specs.Text.{AcceptsTexts}
 use Rattle.loading.specs.Loading.{EnteredInOrder, LoadsPortfolios, entered, entered_from, loading_of}
-use Rattle.loading.specs.Trying.{Outcome, outcome, tried, Ended, all-accepted, next-declined, TriedInOrder, entries_of, first_entry_line, opening, posting}
+use Rattle.loading.specs.Trying.{Outcome, outcome, tried, Ended, all_accepted, next_declined, TriedInOrder, entries_of, first_entry_line, opening, posting}
 
 none_before : {X : Type 0} (before : List X) (c : X) (rest : List X) → ◌≡◌ {A = List X} [] (before ++ c ∷ rest) → ⊥
 none_before [] c rest e = omega (arith, ap length e)
@@ -32,7 +32,7 @@ stopped-at-once t line p c cs f is =
       accepted = 0;
       book_of_these = refl;
       each_accepted = λ before c rest e. absurd (none_before before c rest e);
-      ended = subst (λ n. Ended t p (c ∷ cs) n (Some (stop_at line f))) (sym (add-zero line)) (next-declined c cs line f is);
+      ended = subst (λ n. Ended t p (c ∷ cs) n (Some (stop_at line f))) (sym (add-zero line)) (next_declined c cs line f is);
     }
 
 -- the first is accepted, and the others are tried after it
@@ -59,7 +59,7 @@ tried_in_order t line p [] =
       accepted = 0;
       book_of_these = refl;
       each_accepted = λ before c rest e. absurd (none_before before c rest e);
-      ended = all-accepted (line + 0);
+      ended = all_accepted (line + 0);
     }
 tried_in_order t line p (c ∷ cs) = by (declined t p c) refl (tried_in_order t (suc line) (after t p c) cs)
   where

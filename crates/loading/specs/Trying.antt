@@ -46,8 +46,8 @@ tried t line p (c ∷ cs) = unless (declined t p c) (tried t (suc line) (after t
 
 -- how the entries came to an end: all were accepted, or the next is declined with the fault that is told
 pub data Ended (t : Tables) (p : PlainBook) : List Step → ℕ → Option Stop → Type 0 where
-  all-accepted : (line : ℕ) → Ended t p [] line None
-  next-declined : (c : Step) (cs : List Step) (line : ℕ) (f : Fault) → declined t p c ≡ Some f → Ended t p (c ∷ cs) line (Some (stop_at line f))
+  all_accepted : (line : ℕ) → Ended t p [] line None
+  next_declined : (c : Step) (cs : List Step) (line : ℕ) (f : Fault) → declined t p c ≡ Some f → Ended t p (c ∷ cs) line (Some (stop_at line f))
 
 -- So many entries were accepted, each at its point; the book is that of a run of these and of no other. The first
 -- of all stands in this line.

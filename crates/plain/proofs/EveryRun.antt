@@ -102,7 +102,7 @@ both-add m f g h e = ap₂ ◌+ℤ◌ (measured-both m f) (measured-both m g) �
 
 pub kilograms-at : (t : Tables) → Lawful t → (p : PlainBook) → KeptByEveryRun p → (m : Measure) → KeepsEveryKilogram t p m (answer t p)
 kilograms-at t lawful p ok m = record {
-  no-kilogram-gained-or-lost = kilograms-kept (apportionments t p m) (orderly t lawful p m ok) _ _ _ _ (answered-as-defined t p m ok);
+  no_kilogram_gained_or_lost = kilograms-kept (apportionments t p m) (orderly t lawful p m ok) _ _ _ _ (answered-as-defined t p m ok);
   projects_and_rest_make_all = λ k e.
       let same : book_total_of t p ≡ k = cc in
       subst (ProjectsAndRestMakeAll m) same (both-add m (λ n. book_total (map (apportionment t p.positions n) (filter is_project p.investees)))

@@ -32,7 +32,7 @@ ProjectsAndRestMakeAll m k = measured m k.projects.kilograms +ℤ measured m k.r
 
 -- The answers that are asked of a book with this plain book, in one measure. Who gives them, and how, is left open.
 pub record KeepsEveryKilogram (t : Tables) (p : PlainBook) (m : Measure) (ask : Step → Answer) : Type 0 where
-  pub no-kilogram-gained-or-lost :
+  pub no_kilogram_gained_or_lost :
       NoKilogramGainedOrLost (apportionments t p m)
       (λ id branch. kilograms_in m (ask (ask_part id branch)))
       (λ id. kilograms_in m (ask (ask_total id)))

@@ -1,7 +1,7 @@
 -- The plain book: investees in the order of their openings, and positions in the order of their first posts.
 --   investee   what was opened: its profile, the kilograms and grade of its last reading, its reduction
 --   position   what one branch has lent to one investee: a balance for each month of the year that was posted
-use Rattle.std.specs.Prelude.{ℕ, ◌-◌, Bool, false, ◌&&◌, List, [], set, replicate, ℤ, is_some, Some, None, Option, ◌==◌, slice_index_or, slice_set}
+use Rattle.std.specs.Prelude.{ℕ, ◌-◌, Bool, false, ◌&&◌, List, [], replicate, ℤ, is_some, Some, None, Option, ◌==◌, slice_index_or, slice_set}
 use Rattle.rules.specs.Months.{months}
 use Rattle.rules.specs.declared.investees.Profile.{Profile}
 use Rattle.plain.specs.Lists.{first_of}

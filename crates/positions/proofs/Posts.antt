@@ -1,13 +1,12 @@
 -- What a post and an amendment do to the positions of a table.
 use Rattle.std.proofs.Common.{◌≡◌, ℕ, Bool, true, false, cond, not, ◌&&◌, eqb, leb, List, [], ◌∷◌, ◌++◌, length, is_some, Some, None, Option, sym, refl, ap, ◌∙◌}
-use Rattle.std.specs.List.{AllByRecursion}
 use Rattle.std.proofs.lemmas.Bool.{eq-eqb, and_from, cond-true, cond-false}
-use Rattle.plain.specs.Changes.{with_position, amended, posted}
+use Rattle.plain.specs.Changes.{amended, posted}
 use Rattle.plain.specs.Limits.{most_positions}
 use Rattle.plain.specs.Lists.{change_first}
 use Rattle.plain.specs.PlainBook.{PlainPosition, is_of, position_of, new_position, with_balance}
 use Rattle.plain.proofs.Lists.{none_passes, change-last}
-use Rattle.positions.specs.Entries.{balance_in, written, can_enter}
+use Rattle.positions.specs.Entries.{written, can_enter}
 use Rattle.positions.specs.Places.{first_place, change_at}
 use Rattle.positions.specs.Years.{in_year}
 use Rattle.positions.proofs.Places.{found_alike, first-idle, change-at-place, change-nowhere}

@@ -1,5 +1,5 @@
 -- A walk over the rows of a table: what those on one investee add up to.
-use Rattle.std.proofs.Common.{◌≡◌, ℕ, ◌+◌, ◌*◌, ◌^◌, ◌<◌, ◌≤◌, true, false, cond, eqb, List, [], ◌∷◌, map, length, get_or, drop, is_some, sum_by, sym, refl, ap, ◌∙◌, ap₂, arith}
+use Rattle.std.proofs.Common.{◌≡◌, ℕ, ◌+◌, ◌*◌, ◌^◌, ◌<◌, ◌≤◌, true, false, eqb, List, [], ◌∷◌, map, length, get_or, drop, is_some, sum_by, sym, refl, ap, ◌∙◌, arith}
 use Rattle.std.proofs.lemmas.List.{at_drop_more, at_drop_all}
 use Rattle.std.proofs.lemmas.List.Sums.{sum_by-cons}
 use Rattle.std.proofs.lemmas.Bool.{eq-eqb, ne_eqb, cond-true, cond-false}
@@ -9,11 +9,9 @@ use Rattle.plain.specs.Exposures.{closing_of, exposure_of, positions_on, lent_by
 use Rattle.plain.specs.Lists.{first_of}
 use Rattle.plain.specs.Parts.{Lent, exposures, exposure_at, exposure_before}
 use Rattle.plain.specs.PlainBook.{PlainPosition}
-use Rattle.positions.specs.Lending.{lent_on, lending_of, turn_of, branch_in}
+use Rattle.positions.specs.Lending.{lending_of, turn_of, branch_in}
 use Rattle.positions.specs.Rows.{plain_position, plain_positions}
 use Rattle.positions.specs.declared.PositionRow.{PositionRow}
-use Rattle.positions.specs.declared.lending.Lending.{Lending}
-use Rattle.positions.specs.declared.lending.Turn.{Turn}
 
 -- those of the rows that are on the investee of an id
 abbrev pub rows_on : ℕ → List PositionRow → List PlainPosition

@@ -45,6 +45,13 @@ impl Positions {
         }
     }
 
+    // How many positions there are.
+    pub fn len(&self) -> usize
+        ensures { result ≡ length (positions_in self.now) }
+    {
+        self.rows.len()
+    }
+
     // Whether the table holds as many positions as it can.
     fn is_full(&self) -> bool
         ensures { result ≡ nat_le most_positions (length (positions_in self.now)) }

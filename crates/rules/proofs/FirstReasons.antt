@@ -6,37 +6,37 @@ use Rattle.rules.specs.declared.kinds.Kind.{Kind}
 use Rattle.rules.specs.declared.kinds.Kind.TheVariants.{Project, PropertyDevelopment, PropertyPurchase, Vehicle, GeneralLoan, Bond}
 use Rattle.rules.specs.declared.kinds.Size.{Size}
 use Rattle.rules.specs.Kinds.{kind_number}
-use Rattle.rules.specs.Reasons.{Reason, few-days, small-loan, small-borrower, repaid, reason_number, least_days, least_loan, small_size, first_passed, FirstReason}
+use Rattle.rules.specs.Reasons.{Reason, few_days, small_loan, small_borrower, repaid, reason_number, least_days, least_loan, small_size, first_passed, FirstReason}
 use Rattle.rules.specs.Pudong.{pudong_reasons, PudongApplies}
 
 fails : {A : Type 0} → Decides false A → A → ⊥
 fails d a = false≢true (d.1 a)
 
-pub first-applies : (Applies : Reason → Type 0) (a b c d : Bool) → Decides a (Applies few-days) → Decides b (Applies small-loan) → Decides c (Applies small-borrower) → Decides d (Applies repaid) → FirstReason Applies (first_passed a b c d)
+pub first-applies : (Applies : Reason → Type 0) (a b c d : Bool) → Decides a (Applies few_days) → Decides b (Applies small_loan) → Decides c (Applies small_borrower) → Decides d (Applies repaid) → FirstReason Applies (first_passed a b c d)
 first-applies Applies true b c d p q r s = record {
-  applies = λ _. (few-days, refl, p.0 refl);
-  none_before = λ reason. elim reason as (λ x. reason_number x < 1 → Applies x → ⊥) [ few-days ↦ λ l _. omega arith | small-loan ↦ λ l _. omega arith | small-borrower ↦ λ l _. omega arith | repaid ↦ λ l _. omega arith ];
+  applies = λ _. (few_days, refl, p.0 refl);
+  none_before = λ reason. elim reason as (λ x. reason_number x < 1 → Applies x → ⊥) [ few_days ↦ λ l _. omega arith | small_loan ↦ λ l _. omega arith | small_borrower ↦ λ l _. omega arith | repaid ↦ λ l _. omega arith ];
   none_at_all = λ e. absurd (omega arith);
 }
 first-applies Applies false true c d p q r s = record {
-  applies = λ _. (small-loan, refl, q.0 refl);
-  none_before = λ reason. elim reason as (λ x. reason_number x < 2 → Applies x → ⊥) [ few-days ↦ λ l. fails p | small-loan ↦ λ l _. omega arith | small-borrower ↦ λ l _. omega arith | repaid ↦ λ l _. omega arith ];
+  applies = λ _. (small_loan, refl, q.0 refl);
+  none_before = λ reason. elim reason as (λ x. reason_number x < 2 → Applies x → ⊥) [ few_days ↦ λ l. fails p | small_loan ↦ λ l _. omega arith | small_borrower ↦ λ l _. omega arith | repaid ↦ λ l _. omega arith ];
   none_at_all = λ e. absurd (omega arith);
 }
 first-applies Applies false false true d p q r s = record {
-  applies = λ _. (small-borrower, refl, r.0 refl);
-  none_before = λ reason. elim reason as (λ x. reason_number x < 3 → Applies x → ⊥) [ few-days ↦ λ l. fails p | small-loan ↦ λ l. fails q | small-borrower ↦ λ l _. omega arith | repaid ↦ λ l _. omega arith ];
+  applies = λ _. (small_borrower, refl, r.0 refl);
+  none_before = λ reason. elim reason as (λ x. reason_number x < 3 → Applies x → ⊥) [ few_days ↦ λ l. fails p | small_loan ↦ λ l. fails q | small_borrower ↦ λ l _. omega arith | repaid ↦ λ l _. omega arith ];
   none_at_all = λ e. absurd (omega arith);
 }
 first-applies Applies false false false true p q r s = record {
   applies = λ _. (repaid, refl, s.0 refl);
-  none_before = λ reason. elim reason as (λ x. reason_number x < 4 → Applies x → ⊥) [ few-days ↦ λ l. fails p | small-loan ↦ λ l. fails q | small-borrower ↦ λ l. fails r | repaid ↦ λ l _. omega arith ];
+  none_before = λ reason. elim reason as (λ x. reason_number x < 4 → Applies x → ⊥) [ few_days ↦ λ l. fails p | small_loan ↦ λ l. fails q | small_borrower ↦ λ l. fails r | repaid ↦ λ l _. omega arith ];
   none_at_all = λ e. absurd (omega arith);
 }
 first-applies Applies false false false false p q r s = record {
   applies = λ h. absurd (omega arith);
-  none_before = λ reason. elim reason as (λ x. reason_number x < 0 → Applies x → ⊥) [ few-days ↦ λ l. fails p | small-loan ↦ λ l. fails q | small-borrower ↦ λ l. fails r | repaid ↦ λ l. fails s ];
-  none_at_all = λ e reason. elim reason as (λ x. Applies x → ⊥) [ few-days ↦ fails p | small-loan ↦ fails q | small-borrower ↦ fails r | repaid ↦ fails s ];
+  none_before = λ reason. elim reason as (λ x. reason_number x < 0 → Applies x → ⊥) [ few_days ↦ λ l. fails p | small_loan ↦ λ l. fails q | small_borrower ↦ λ l. fails r | repaid ↦ λ l. fails s ];
+  none_at_all = λ e reason. elim reason as (λ x. Applies x → ⊥) [ few_days ↦ fails p | small_loan ↦ fails q | small_borrower ↦ fails r | repaid ↦ fails s ];
 }
 
 -- a reason that is tried, with its test

@@ -8,7 +8,7 @@ use Rattle.rules.specs.declared.kinds.Kind.{Kind}
 use Rattle.rules.specs.declared.kinds.Kind.TheVariants.{Project, PropertyDevelopment, PropertyPurchase, Vehicle, GeneralLoan, Bond}
 use Rattle.rules.specs.declared.kinds.Size.{Size}
 use Rattle.rules.specs.Figures.{given, DividedBy}
-use Rattle.rules.specs.Reasons.{Reason, few-days, small-loan, small-borrower, repaid, least_days, least_loan, small_size, first_passed, Holds}
+use Rattle.rules.specs.Reasons.{Reason, few_days, small_loan, small_borrower, repaid, least_days, least_loan, small_size, first_passed, Holds}
 use Rattle.rules.specs.Tables.{Tables}
 
 abbrev pub national_bases : Kind → Figures → Result Base Refusal
@@ -42,9 +42,9 @@ NationalDivides Bond f r = r ≡ Err KindNotCovered
 
 -- the kinds that a reason is tried for
 abbrev pub NationalTries : Kind → Reason → Type 0
-NationalTries kind few-days = (kind ≡ Project) ⊎ (kind ≡ GeneralLoan)
-NationalTries kind small-loan = kind ≡ GeneralLoan
-NationalTries kind small-borrower = kind ≡ GeneralLoan
+NationalTries kind few_days = (kind ≡ Project) ⊎ (kind ≡ GeneralLoan)
+NationalTries kind small_loan = kind ≡ GeneralLoan
+NationalTries kind small_borrower = kind ≡ GeneralLoan
 NationalTries kind repaid = ⊥
 
 abbrev pub NationalApplies : Kind → Size → ℕ → ℕ → ℕ → Reason → Type 0

@@ -7,7 +7,7 @@ use Rattle.rules.specs.declared.kinds.Kind.{Kind}
 use Rattle.rules.specs.declared.kinds.Kind.TheVariants.{Project, PropertyDevelopment, PropertyPurchase, Vehicle, GeneralLoan, Bond}
 use Rattle.rules.specs.declared.kinds.Size.{Size}
 use Rattle.rules.specs.Figures.{given, given_or_whole, DividedBy, DividedByOrWhole}
-use Rattle.rules.specs.Reasons.{Reason, few-days, small-loan, small-borrower, repaid, least_days, least_loan, small_size, first_passed, Holds}
+use Rattle.rules.specs.Reasons.{Reason, few_days, small_loan, small_borrower, repaid, least_days, least_loan, small_size, first_passed, Holds}
 use Rattle.rules.specs.Tables.{Tables}
 
 abbrev pub pudong_bases : Kind → Figures → Result Base Refusal
@@ -45,9 +45,9 @@ PudongDivides Bond f r = DividedBy f.total_assets r
 
 -- the kinds that a reason is tried for
 abbrev pub PudongTries : Kind → Reason → Type 0
-PudongTries kind few-days = kind ≢ Bond
-PudongTries kind small-loan = kind ≡ GeneralLoan
-PudongTries kind small-borrower = kind ≢ Bond
+PudongTries kind few_days = kind ≢ Bond
+PudongTries kind small_loan = kind ≡ GeneralLoan
+PudongTries kind small_borrower = kind ≢ Bond
 PudongTries kind repaid = kind ≢ Bond
 
 abbrev pub PudongApplies : Kind → Size → ℕ → ℕ → ℕ → Reason → Type 0

@@ -7,15 +7,15 @@ use Rattle.rules.specs.declared.kinds.Size.TheVariants.{Large, Medium, Small, Mi
 use Rattle.rules.specs.Months.{months}
 
 pub data Reason : Type 0 where
-  few-days : Reason
-  small-loan : Reason
-  small-borrower : Reason
+  few_days : Reason
+  small_loan : Reason
+  small_borrower : Reason
   repaid : Reason
 
 abbrev pub reason_number : Reason → ℕ
-reason_number few-days = 1
-reason_number small-loan = 2
-reason_number small-borrower = 3
+reason_number few_days = 1
+reason_number small_loan = 2
+reason_number small_borrower = 3
 reason_number repaid = 4
 
 -- the days from which an investee is counted
@@ -40,9 +40,9 @@ first_passed a b c d = cond a 1 (cond b 2 (cond c 3 (cond d 4 0)))
 
 -- what a reason says of an investee
 abbrev pub Holds : Size → ℕ → ℕ → ℕ → Reason → Type 0
-Holds size days exposure closing few-days = days < least_days
-Holds size days exposure closing small-loan = exposure < least_loan
-Holds size days exposure closing small-borrower = small_size size ≡ true
+Holds size days exposure closing few_days = days < least_days
+Holds size days exposure closing small_loan = exposure < least_loan
+Holds size days exposure closing small_borrower = small_size size ≡ true
 Holds size days exposure closing repaid = closing ≡ 0
 
 -- r is the number of the first reason that applies, and 0 if none does

@@ -1,6 +1,6 @@
 -- What the sources that stand on no other mean.
 --   cond b x y    x where the test b holds, else y
---   ltb a b       whether a < b, so that `ltb most n` says that n is above its limit
+--   nat_lt a b    whether a < b, so that `nat_lt most n` says that n is above its limit
 --   fault r p s   the refusal r at the place p, found by the source of number s
 use Rattle.std.specs.Prelude.{ℕ, ◌+◌, ◌*◌, Bool, cond, ◌||◌, List, length, pos, is_some, Ok, Err, sum_by, Result, ◌==◌, nat_lt}
 use Rattle.std.specs.Option.{unwrap_or}

@@ -1,4 +1,4 @@
-use Rattle.std.proofs.Common.{◌≡◌, ◌+◌, ◌^◌, ◌<◌, ◌≤◌, length, take, Some, None, sum_by, unwrap_or, ap, ◌∙◌, arith, take_all, rules}
+use Rattle.std.proofs.Common.{◌≡◌, ◌^◌, ◌<◌, length, None, sum_by, unwrap_or, ap, ◌∙◌, arith, take_all, rules}
 use Rattle.std.proofs.lemmas.List.Sums.{sum_by_more}
 use Rattle.positions.proofs.PositionRow.lent.Goals as goal
 use Rattle.positions.proofs.PositionRow.lent.Goals.{in-Some, in_default}

@@ -1,4 +1,4 @@
-use Rattle.std.proofs.Common.{◌≡◌, cond, sym, ap, ◌∙◌}
+use Rattle.std.proofs.Common.{cond, sym, ap, ◌∙◌}
 use Rattle.positions.specs.View.{positions_in}
 use Rattle.positions.proofs.Posts.{there, nowhere, can-enter-there, can-enter-new, posted-there, posted-new}
 use Rattle.positions.proofs.Positions.enter.Goals as goal

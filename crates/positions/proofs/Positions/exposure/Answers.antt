@@ -1,4 +1,4 @@
-use Rattle.std.proofs.Common.{◌≡◌, ◌+◌, ◌<◌, ◌≤◌, length, take, vec_items, sum_by, sym, ap, ◌∙◌, arith, take_all}
+use Rattle.std.proofs.Common.{◌<◌, vec_items, sum_by, sym, ap, ◌∙◌, arith, take_all}
 use Rattle.plain.proofs.Exposures.{adds, exposures-sum}
 use Rattle.positions.specs.Rows.{plain_position, plain_positions}
 use Rattle.positions.proofs.Sums.{sum-next, sum_view}

@@ -1,4 +1,4 @@
-use Rattle.std.proofs.Common.{◌≡◌, ◌*◌, ◌^◌, ◌≤◌, cond, eqb, take, sum_by}
+use Rattle.std.proofs.Common.{◌≡◌, ◌*◌, ◌^◌, ◌≤◌, take, sum_by}
 use Rattle.rules.specs.Months.{months}
 use Rattle.plain.proofs.Exposures.{adds}
 use Rattle.positions.specs.Rows.{plain_position}

@@ -1,4 +1,4 @@
-use Rattle.std.proofs.Common.{◌≡◌, ap, ◌∙◌}
+use Rattle.std.proofs.Common.{ap, ◌∙◌}
 use Rattle.positions.specs.Lending.{lending_of}
 use Rattle.positions.specs.Rows.{plain_positions}
 use Rattle.positions.proofs.Walks.{lent-more, lent_same, lent-all}

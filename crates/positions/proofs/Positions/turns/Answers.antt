@@ -1,4 +1,4 @@
-use Rattle.std.proofs.Common.{◌≡◌, ◌<◌, sym, ap, ◌∙◌, arith}
+use Rattle.std.proofs.Common.{ap, ◌∙◌}
 use Rattle.positions.specs.Lending.{turns_of}
 use Rattle.positions.specs.Rows.{plain_positions}
 use Rattle.positions.proofs.Turns.{turns-first, turns-off, turns-on, turns-all}

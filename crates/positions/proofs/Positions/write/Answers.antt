@@ -1,4 +1,4 @@
-use Rattle.std.proofs.Common.{◌≡◌, vec_items, sym, ap, ◌∙◌, arith}
+use Rattle.std.proofs.Common.{vec_items, sym, arith}
 use Rattle.std.proofs.lemmas.List.{length-map}
 use Rattle.positions.specs.Entries.{written}
 use Rattle.positions.specs.Rows.{plain_position}
