@@ -1,11 +1,11 @@
 -- The line that says where a file stops fits into every buffer for a page.
-use Rattle.std.proofs.Common.{◌≡◌, ℕ, ◌+◌, ◌^◌, ◌<◌, ◌≤◌, List, [], ◌∷◌, ◌++◌, length, take, drop, Some, None, decimal, sym, refl, ap, ◌∙◌, subst, arith, MatchOption}
+use Rattle.std.proofs.Common.{◌≡◌, ℕ, ◌+◌, ◌^◌, ◌<◌, ◌≤◌, List, [], ◌∷◌, ◌++◌, length, drop, Some, None, decimal, ap, ◌∙◌, arith}
 use Rattle.std.specs.List.{AllByRecursion}
 use Rattle.std.proofs.lemmas.Fmt.{length-decimal-le}
 use Rattle.std.proofs.lemmas.List.{length-append}
 use Rattle.entries.specs.declared.stop.Stop.{Stop}
 use Rattle.faults.specs.Refusals.{number_of}
-use Rattle.lines.specs.Writing.{Wrote, over}
+use Rattle.lines.specs.Writing.{Wrote}
 use Rattle.pages.specs.Placed.{room}
 use Rattle.answering.specs.Buffers.{placed_text}
 use Rattle.answering.specs.Stops.{stop_numbers, stop_line}

@@ -1,5 +1,5 @@
 -- The sheets of all branches, from the turns of all branches on each investee.
-use Rattle.std.proofs.Common.{◌≡◌, ℕ, ◌+◌, ◌<◌, ◌≤◌, Bool, true, false, cond, eqb, ◌⊎◌, List, [], ◌∷◌, reverse, length, get_or, set, ℤ, pos, ◌+ℤ◌, ◌-ℤ◌, Some, None, Option, sym, refl, ap, ◌∙◌, ap₂, inl, inr, add-zero, arith, length-set}
+use Rattle.std.proofs.Common.{◌≡◌, ℕ, ◌+◌, ◌<◌, ◌≤◌, Bool, true, false, cond, eqb, ◌⊎◌, List, [], ◌∷◌, reverse, length, get_or, set, ℤ, pos, ◌-ℤ◌, Some, None, Option, sym, refl, ap, ◌∙◌, ap₂, inl, inr, add-zero, arith, length-set}
 use lib.IntN.{+ℤ_idr}
 use Rattle.std.proofs.lemmas.List.{get_or-map, get_or-set_same, get_or-set_other}
 use Rattle.std.proofs.lemmas.Bool.{cases_eq}
@@ -7,10 +7,10 @@ use Rattle.rules.specs.Tables.{Tables}
 use Rattle.rules.specs.declared.kinds.Kind.{Kind}
 use Rattle.plain.specs.declared.answers.Kilograms.{Kilograms}
 use Rattle.plain.specs.Branches.{branch_count, branches}
-use Rattle.plain.specs.Exposures.{Measure, emissions, reductions, figure_of, is_counted, apportionment, lent_to}
+use Rattle.plain.specs.Exposures.{Measure, emissions, reductions, apportionment, lent_to}
 use Rattle.plain.specs.Parts.{Lent, exposure_at, exposure_before, base, part}
 use Rattle.plain.specs.PlainBook.{PlainInvestee, PlainPosition, PlainBook}
-use Rattle.plain.specs.Readings.{both, part_of}
+use Rattle.plain.specs.Readings.{part_of}
 use Rattle.plain.specs.Rounding.{rounded}
 use Rattle.plain.proofs.Integers.{linear}
 use Rattle.positions.specs.Lending.{lent_on, turn_of, turn_from, turns_of}

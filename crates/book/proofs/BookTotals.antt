@@ -1,5 +1,5 @@
 -- The book total, from the lines of a book.
-use Rattle.std.proofs.Common.{◌≡◌, ℕ, ◌+◌, ◌*◌, ◌<◌, ◌≤◌, min, Bool, true, false, cond, ◌&&◌, eqb, List, [], ◌∷◌, ◌++◌, map, length, get_or, take, set, ℤ, pos, ◌+ℤ◌, nat_abs, sum_by, filter, sym, refl, ap, ◌∙◌, ap₂, arith, take_all}
+use Rattle.std.proofs.Common.{◌≡◌, ℕ, ◌+◌, ◌*◌, ◌<◌, ◌≤◌, Bool, true, false, cond, eqb, List, [], ◌∷◌, ◌++◌, map, length, get_or, take, set, ℤ, pos, ◌+ℤ◌, sum_by, filter, sym, refl, ap, ◌∙◌, ap₂, arith, take_all}
 use mathlib.Core.Path.{fun_ext}
 use lib.IntN.{+ℤ_idl}
 use Rattle.std.specs.List.{AllByRecursion}
@@ -8,13 +8,12 @@ use Rattle.std.proofs.lemmas.List.{length-map, take_more_set, map_more}
 use Rattle.std.proofs.lemmas.List.Sums.{sum_by-cons, length-filter, count_by-le-length}
 use Rattle.grading.specs.Mean.{mean_of, nearest_hundredths}
 use Rattle.rules.specs.Tables.{Tables}
-use Rattle.sources.specs.Limits.{most_kilograms}
 use Rattle.plain.specs.Exposures.{positions_on, exposure_to, is_counted, Measure, emissions, reductions, apportionment}
 use Rattle.plain.specs.Kept.{KeptByEveryRun}
-use Rattle.plain.specs.Limits.{most_investees, most_exposure}
+use Rattle.plain.specs.Limits.{most_investees}
 use Rattle.plain.specs.Parts.{total, book_total}
 use Rattle.plain.specs.PlainBook.{PlainInvestee, PlainBook, id_of}
-use Rattle.plain.specs.Readings.{total_of, positions_on_all, covers, hundredths, subtotal_of, mean_grade_of, book_total_of}
+use Rattle.plain.specs.Readings.{positions_on_all, covers, hundredths, subtotal_of, book_total_of}
 use Rattle.plain.specs.Sums.{sum_over}
 use Rattle.plain.proofs.EveryRun.{once_per_branch}
 use Rattle.plain.proofs.Exposures.{sum_kept, mean-kept}

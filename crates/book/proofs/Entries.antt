@@ -1,20 +1,18 @@
 -- What a post and an amendment do to the exposure of their investee.
-use Rattle.std.proofs.Common.{◌≡◌, ℕ, ◌+◌, ◌-◌, ◌*◌, ◌<◌, ◌≤◌, Bool, true, false, cond, not, ◌&&◌, eqb, leb, List, [], ◌∷◌, ◌++◌, map, length, get_or, set, replicate, is_some, Some, None, sum_by, Option, unwrap_or, sym, refl, ap, ◌∙◌, subst, ap₂, ⊎_elim, arith}
+use Rattle.std.proofs.Common.{◌≡◌, ℕ, ◌+◌, ◌-◌, ◌*◌, ◌<◌, ◌≤◌, Bool, true, false, cond, not, ◌&&◌, eqb, List, [], ◌∷◌, ◌++◌, map, length, get_or, set, is_some, Some, None, sum_by, Option, unwrap_or, sym, refl, ap, ◌∙◌, ⊎_elim, arith}
 use Rattle.std.specs.List.{AllByRecursion}
-use Rattle.std.proofs.lemmas.List.{get_or_at, set_at, get_or-set_same, get_or-replicate}
+use Rattle.std.proofs.lemmas.List.{get_or-set_same, get_or-replicate}
 use Rattle.std.proofs.lemmas.List.Sums.{sum_by-set, sum_by_push}
-use Rattle.std.proofs.lemmas.Bool.{both_ways, eq-eqb, eqb-true, and_parts, and_from, and_cases, leb-false, not_from_false, not-false, cond-true, cond-false, cases_lt}
+use Rattle.std.proofs.lemmas.Bool.{eq-eqb, eqb-true, and_parts, and_from, not-false, cond-true, cond-false, cases_lt}
 use Rattle.rules.specs.Months.{months}
 use Rattle.rules.specs.declared.kinds.Kind.{Kind}
 use Rattle.plain.specs.Changes.{with_position, amended, posted}
 use Rattle.plain.specs.Exposures.{is_bond, closing_of, exposure_of, lent_by, positions_on}
-use Rattle.plain.specs.Limits.{most_positions}
-use Rattle.plain.specs.Lists.{first_of, change_first}
+use Rattle.plain.specs.Lists.{first_of}
 use Rattle.plain.specs.Parts.{exposures}
 use Rattle.plain.specs.PlainBook.{PlainPosition, is_of, position_of, new_position, balance_of, with_balance, posted_in, is_posted}
-use Rattle.plain.specs.Refused.{no_room_for}
 use Rattle.plain.proofs.Exposures.{adds, exposures-sum}
-use Rattle.plain.proofs.Lists.{place_of, first_passes, first-all, first-at, first_past, none_passes, change-at, change-last}
+use Rattle.plain.proofs.Lists.{place_of, first_passes, first-all, first-at, first_past, none_passes, change-at}
 use Rattle.positions.specs.Entries.{balance_in}
 use Rattle.book.specs.Entries.{counted}
 

@@ -1,17 +1,17 @@
 -- Posts and amendments, from the tests that they share and those of their own.
-use Rattle.std.proofs.Common.{◌≡◌, ℕ, ◌+◌, ◌≤◌, Bool, true, false, cond, not, ◌&&◌, leb, List, Some, None, Ok, Err, Option, Result, unwrap_or, sym, refl, ap, ◌∙◌, subst, arith}
+use Rattle.std.proofs.Common.{◌≡◌, ℕ, ◌+◌, ◌≤◌, Bool, true, false, cond, not, leb, List, Some, None, Ok, Err, Option, Result, unwrap_or, sym, refl, ap, ◌∙◌, subst, arith}
 use Rattle.std.proofs.ByRecursion.{All-weaker}
 use Rattle.std.proofs.lemmas.Bool.{eqb-true, le-leb, and_from, cond-true}
 use Rattle.faults.specs.Refusals.{fault}
 use Rattle.faults.specs.declared.Fault.{Fault}
-use Rattle.faults.specs.declared.Refusal.TheVariants.{NotOpen, EntryOutOfRange, BondOutsideClosingMonth, MonthAlreadyPosted, MonthNotPosted, PositionsFull}
+use Rattle.faults.specs.declared.Refusal.TheVariants.{EntryOutOfRange, BondOutsideClosingMonth, MonthAlreadyPosted, MonthNotPosted, PositionsFull}
 use Rattle.rules.specs.Months.{months}
 use Rattle.rules.specs.Tables.{Tables}
 use Rattle.plain.specs.Changes.{changed, amended, posted}
 use Rattle.plain.specs.Exposures.{exposure_to}
 use Rattle.plain.specs.Kept.{KeptByEveryRun}
 use Rattle.plain.specs.Limits.{most_exposure}
-use Rattle.plain.specs.PlainBook.{PlainInvestee, PlainPosition, PlainBook, with_positions, id_of, has_id, investee_of, position_of, balance_of, is_posted}
+use Rattle.plain.specs.PlainBook.{PlainInvestee, PlainPosition, PlainBook, with_positions, id_of, has_id, investee_of, position_of, is_posted}
 use Rattle.plain.specs.Refused.{refuse, if_open, entry_out_of_range, bond_outside_closing, no_room_for, too_much_lent, declined}
 use Rattle.plain.specs.Runs.{unless, after}
 use Rattle.plain.specs.Steps.{Step, post, amend}

@@ -1,6 +1,6 @@
 -- What every run keeps is a proposition, so a book can keep that there is a proof of it, and have the proof back.
 use mathlib.Core.Bool.{Bool-set}
-use mathlib.Core.HLevel.{¬_prop, Unit-prop, Π_prop, →_prop, ×_prop}
+use mathlib.Core.HLevel.{¬_prop, Unit-prop, →_prop, ×_prop}
 use Rattle.std.proofs.Common.{List, [], ◌∷◌, ℤ, ◌≤ℤ◌}
 use mathlib.Core.Logic.{∥∥₁_elim}
 use native.Mathlib.Bridge.{le_prop}

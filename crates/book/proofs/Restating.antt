@@ -6,14 +6,13 @@ use Rattle.faults.specs.declared.Refusal.TheVariants.{NotOpen}
 use Rattle.sources.specs.declared.reading.Reading.{Reading}
 use Rattle.plain.specs.Changes.{read_into}
 use Rattle.plain.specs.Lists.{change_first}
-use Rattle.plain.specs.PlainBook.{PlainInvestee, PlainBook, with_investees, has_id, investee_of}
+use Rattle.plain.specs.PlainBook.{PlainInvestee, PlainBook, has_id, investee_of}
 use Rattle.plain.specs.Refused.{if_open}
 use Rattle.plain.specs.Steps.{Meaning}
 use Rattle.book.specs.declared.rows.InvesteeRow.{InvesteeRow}
-use Rattle.positions.specs.declared.Positions.{Positions}
 use Rattle.book.specs.Openings.{open_at}
 use Rattle.positions.specs.Places.{first_place}
-use Rattle.book.specs.Rows.{plain_investee, plain_investees, plain_rows}
+use Rattle.book.specs.Rows.{plain_investee, plain_investees}
 use Rattle.positions.proofs.Places.{first-nowhere, found_alike, row_within, written-view, change-at-place}
 
 -- ---- the place

@@ -1,8 +1,7 @@
 -- Totals in closed form: what falls to all exposures together.
-use Rattle.std.proofs.Common.{◌≡◌, ℕ, ◌+◌, Bool, true, false, cond, eqb, ℤ, pos, ◌-ℤ◌, sym, refl, ap, ◌∙◌, ap₂, zero-add}
+use Rattle.std.proofs.Common.{◌≡◌, ◌+◌, Bool, true, false, cond, eqb, ℤ, pos, ◌-ℤ◌, sym, refl, ap, ◌∙◌, ap₂, zero-add}
 use lib.IntN.{+ℤ_idr}
 use Rattle.rules.specs.Tables.{Tables}
-use Rattle.plain.specs.declared.answers.InvesteeTotal.{InvesteeTotal}
 use Rattle.plain.specs.declared.answers.Kilograms.{Kilograms}
 use Rattle.plain.specs.Exposures.{reason_of, is_counted, Measure, emissions, reductions, figure_of, apportionment}
 use Rattle.plain.specs.Kept.{KeptByEveryRun}
@@ -14,8 +13,7 @@ use Rattle.plain.proofs.EveryRun.{once_per_branch}
 use Rattle.plain.proofs.Parts.{total-is}
 use Rattle.plain.proofs.Rounding.{rounded-none}
 use Rattle.book.specs.Lines.{line_of}
-use Rattle.book.specs.Standings.{standing_of, falls, both_fall, whole_turn, all_falls}
-use Rattle.book.specs.declared.book.readings.lines.Line.{Line}
+use Rattle.book.specs.Standings.{standing_of, both_fall, whole_turn, all_falls}
 use Rattle.book.specs.declared.book.readings.Standing.{Standing}
 
 both-same : (f g : Measure → ℤ) → ((m : Measure) → f m ≡ g m) → both f ≡ both g

@@ -12,7 +12,7 @@ use Rattle.sources.specs.Limits.{most_kilograms}
 use Rattle.plain.specs.Exposures.{exposure_to, denominator_from, denominator_of, lent_to, Measure, emissions, reductions, figure_of}
 use Rattle.plain.specs.Kept.{InvesteeInRange, KeptByEveryRun}
 use Rattle.plain.specs.Limits.{most_exposure}
-use Rattle.plain.specs.Parts.{Denominator, base_of}
+use Rattle.plain.specs.Parts.{base_of}
 use Rattle.plain.specs.PlainBook.{PlainInvestee, PlainPosition, PlainBook, has_id, investee_of}
 use Rattle.plain.proofs.Lists.{all_both, first-all}
 use Rattle.plain.proofs.Parts.{base-holds}

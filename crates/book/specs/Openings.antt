@@ -10,7 +10,6 @@ use Rattle.rules.specs.Tables.{Tables}
 use Rattle.rules.specs.declared.figures.Base.{Base}
 use Rattle.rules.specs.declared.investees.InvesteeFields.{InvesteeFields}
 use Rattle.rules.specs.declared.investees.Profile.{Profile}
-use Rattle.sources.specs.declared.reading.Reading.{Reading}
 use Rattle.plain.specs.Limits.{most_investees}
 use Rattle.plain.specs.PlainBook.{PlainBook, is_open}
 use Rattle.plain.specs.Steps.{Meaning}

@@ -1,5 +1,5 @@
 -- Entries tried after others.
-use Rattle.std.proofs.Common.{◌≡◌, ℕ, suc, ◌+◌, List, [], ◌∷◌, ◌++◌, map, length, Some, None, Option, sym, refl, ap, ◌∙◌, add-zero, arith}
+use Rattle.std.proofs.Common.{◌≡◌, ℕ, suc, ◌+◌, List, [], ◌∷◌, ◌++◌, length, Some, None, Option, sym, ap, ◌∙◌, add-zero, arith}
 use Rattle.faults.specs.declared.Fault.{Fault}
 use Rattle.rules.specs.Tables.{Tables}
 use Rattle.entries.specs.Stops.{stop_at}

@@ -1,5 +1,5 @@
 -- What the cursors of a portfolio give, as entries.
-use Rattle.std.proofs.Common.{◌≡◌, ℕ, List, [], ◌∷◌, Some, None, Option, sym, refl, ap, ◌∙◌, arith}
+use Rattle.std.proofs.Common.{◌≡◌, ℕ, List, [], ◌∷◌, Some, None, sym, refl, ap, ◌∙◌, arith}
 use Rattle.sources.specs.Layers.{overseas_meaning, offset_meaning}
 use Rattle.entries.proofs.Means.{held-entry-means}
 use Rattle.entries.specs.Entries.{PlainEntry, held_entry}

@@ -1,9 +1,8 @@
 -- Entries entered one after another are tried in order.
-use Rattle.std.proofs.Common.{◌≡◌, ℕ, suc, ◌+◌, ◌^◌, ◌<◌, List, [], ◌∷◌, ◌++◌, map, length, Some, None, Ok, Err, Option, Result, sym, refl, ap, ◌∙◌, subst, add-zero, add-one, arith}
+use Rattle.std.proofs.Common.{◌≡◌, ℕ, suc, ◌+◌, ◌^◌, ◌<◌, List, [], ◌∷◌, map, length, Some, None, Ok, Err, Option, sym, refl, ap, ◌∙◌, add-one, arith}
 use Rattle.faults.specs.declared.Fault.{Fault}
 use Rattle.rules.specs.Tables.{Tables}
 use Rattle.entries.specs.Stops.{stop_at}
-use Rattle.entries.specs.declared.stop.Stop.{Stop}
 use Rattle.plain.specs.Changes.{changed}
 use Rattle.plain.specs.PlainBook.{PlainBook}
 use Rattle.plain.specs.Readings.{gives}
@@ -13,7 +12,7 @@ use Rattle.plain.specs.Steps.{Step}
 use Rattle.plain.specs.declared.answers.Answer.{Answer}
 use Rattle.plain.specs.declared.answers.Answer.TheVariants.{Done, Declined}
 use Rattle.book.specs.Told.{told, done}
-use Rattle.loading.specs.Trying.{Outcome, outcome, tried}
+use Rattle.loading.specs.Trying.{outcome, tried}
 
 -- ---- what a call that changes the book tells its caller
 

@@ -1,6 +1,6 @@
 -- Entries tried on a plain book in their order, to the last or to the first that is declined.
 --   outcome   the book with the entries before that one, and where it stands
-use Rattle.std.specs.Prelude.{◌≡◌, ℕ, suc, ◌+◌, ◌<◌, ◌⊎◌, List, [], ◌∷◌, ◌++◌, map, length, take, drop, Some, None, Option}
+use Rattle.std.specs.Prelude.{◌≡◌, ℕ, suc, ◌+◌, List, [], ◌∷◌, ◌++◌, map, take, drop, Some, None, Option}
 use Rattle.faults.specs.declared.Fault.{Fault}
 use Rattle.rules.specs.Tables.{Tables}
 use Rattle.entries.specs.Entries.{PlainEntry, PlainPortfolio, entry_meaning}

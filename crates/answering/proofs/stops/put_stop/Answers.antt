@@ -1,4 +1,4 @@
-use Rattle.std.proofs.Common.{◌≡◌, [], ◌∷◌, ◌++◌, ap, ◌∙◌}
+use Rattle.std.proofs.Common.{[], ◌∷◌, ap, ◌∙◌}
 use Rattle.lines.specs.Render.{number_line}
 use Rattle.lines.specs.Writing.{place_after, written}
 use Rattle.lines.proofs.Writes.{left-all, left-put, left-put-last, left-put-stop}

@@ -1,9 +1,8 @@
-use Rattle.std.proofs.Common.{◌≡◌, ◌+◌, ◌++◌, map, length, None, sym, refl, ap, ◌∙◌, arith}
+use Rattle.std.proofs.Common.{◌≡◌, ◌+◌, map, length, None, sym, ap, ◌∙◌}
 use Rattle.std.proofs.lemmas.List.{length-map}
 use Rattle.std.proofs.lemmas.Result.{err_from_is_err_and}
-use Rattle.std.specs.Result.{result_err}
 use Rattle.book.specs.View.{plain}
-use Rattle.portfolio.specs.Cursors.{investees_left, posts_left, plain_portfolio}
+use Rattle.portfolio.specs.Cursors.{plain_portfolio}
 use Rattle.loading.specs.Trying.{first_entry_line, opening, outcome, posting, tried}
 use Rattle.loading.proofs.Appending.{tried-on, tried-no-further}
 use Rattle.loading.proofs.entering.enter.Goals as goal

@@ -1,4 +1,4 @@
-use Rattle.std.proofs.Common.{◌≡◌, suc, length, Some, None, sym, refl, ap, ◌∙◌, arith}
+use Rattle.std.proofs.Common.{◌≡◌, suc, length, Some, refl, ap, ◌∙◌, arith}
 use Rattle.plain.specs.Runs.{after, answer}
 use Rattle.book.specs.View.{plain}
 use Rattle.portfolio.specs.Cursors.{investees_left}

@@ -1,4 +1,4 @@
-use Rattle.std.proofs.Common.{◌≡◌, ◌+◌, length, get_or, vec_items, sym, refl, ap, ◌∙◌, arith, take_all}
+use Rattle.std.proofs.Common.{◌+◌, length, get_or, vec_items, refl, ap, ◌∙◌, arith, take_all}
 use lib.ListN.{get_or-replicate}
 use Rattle.std.proofs.ByRecursion.{All-get_or}
 use Rattle.plain.specs.Branches.{branch_count}

@@ -1,4 +1,4 @@
-use Rattle.std.proofs.Common.{◌≡◌, sym, refl, ap, ◌∙◌}
+use Rattle.std.proofs.Common.{sym, refl, ap, ◌∙◌}
 use Rattle.plain.specs.Runs.{after, answer}
 use Rattle.plain.specs.Steps.{ask_part, ask_total, ask_sheet, ask_book_total}
 use Rattle.book.specs.Calls.{step_of}

@@ -1,4 +1,4 @@
-use Rattle.std.proofs.Common.{◌≡◌, vec_items, vec_len, sym, ◌∙◌, arith, length-set}
+use Rattle.std.proofs.Common.{vec_items, vec_len, sym, ◌∙◌, arith, length-set}
 use Rattle.std.proofs.ByRecursion.{All-get_or}
 use Rattle.positions.specs.View.{positions_in}
 use Rattle.book.specs.Lines.{line_of}

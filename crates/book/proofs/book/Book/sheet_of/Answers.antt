@@ -1,4 +1,4 @@
-use Rattle.std.proofs.Common.{◌≡◌, take, vec_items, ap, ◌∙◌, arith, take_all}
+use Rattle.std.proofs.Common.{vec_items, ap, ◌∙◌, arith, take_all}
 use Rattle.std.proofs.ByRecursion.{All-get_or}
 use Rattle.plain.specs.Limits.{most_investees}
 use Rattle.positions.specs.View.{positions_in}

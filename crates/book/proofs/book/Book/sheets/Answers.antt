@@ -1,4 +1,4 @@
-use Rattle.std.proofs.Common.{◌≡◌, cond, map, reverse, length, take, Some, None, sym, ap, ◌∙◌, ap₂, arith, length-set, take_all}
+use Rattle.std.proofs.Common.{cond, map, reverse, Some, None, sym, ap, ◌∙◌, ap₂, arith, length-set, take_all}
 use Rattle.plain.specs.Branches.{branches}
 use Rattle.plain.specs.Readings.{sheet_if_any}
 use Rattle.book.specs.View.{plain}

@@ -1,4 +1,4 @@
-use Rattle.std.proofs.Common.{◌≡◌, ◌≤◌, nat_abs, sym, subst}
+use Rattle.std.proofs.Common.{◌≤◌, nat_abs, sym, subst}
 use Rattle.sources.specs.Limits.{most_kilograms}
 use Rattle.book.proofs.Words.{product-fits, rounded-word, rounded-small}
 use Rattle.book.proofs.book.readings.rounded_of.Goals as goal

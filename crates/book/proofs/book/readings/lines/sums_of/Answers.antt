@@ -1,4 +1,4 @@
-use Rattle.std.proofs.Common.{◌≡◌, ap, ◌∙◌, take_all}
+use Rattle.std.proofs.Common.{ap, ◌∙◌, take_all}
 use Rattle.plain.specs.Limits.{most_investees}
 use Rattle.book.specs.Lines.{sums_of}
 use Rattle.book.proofs.Adding.{sums_none, sums-sofar-within, next-within, sums-more}

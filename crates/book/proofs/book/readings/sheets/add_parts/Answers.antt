@@ -1,4 +1,4 @@
-use Rattle.std.proofs.Common.{◌≡◌, ◌+◌, get_or, sym, refl, ap, ◌∙◌, subst, arith}
+use Rattle.std.proofs.Common.{◌+◌, get_or, sym, refl, ap, ◌∙◌, subst, arith}
 use Rattle.plain.specs.Limits.{most_investees}
 use Rattle.plain.specs.Readings.{part_of}
 use Rattle.positions.specs.View.{positions_in}
