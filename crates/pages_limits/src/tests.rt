@@ -51,7 +51,7 @@ fn written<R: Rule>(heap: Global, book: &Book<'_, R>) -> Result<Vec<u8>, Fail> {
 fn empty_book(rt: HostRuntime) -> Result<(), Fail> {
     let book = Book::new(rt.alloc(), &National)?;
     let text = written(rt.alloc(), &book)?;
-    assert!(rt; text.as_slice() == b"FE 0\nT 0\n.");
+    assert!(rt; text.as_slice() == b"FE 0\nT 0\n.".as_slice());
     Ok(())
 }
 
@@ -62,7 +62,7 @@ fn two_branches(rt: HostRuntime) -> Result<(), Fail> {
     book.post(1, 7, 1, 60_000)?;
     book.post(2, 7, 1, 60_000)?;
     let text = written(rt.alloc(), &book)?;
-    assert!(rt; text.as_slice() == b"FE 1\n7 1001 0 1\nB 1 500\nB 2 501\nT 1001\n.");
+    assert!(rt; text.as_slice() == b"FE 1\n7 1001 0 1\nB 1 500\nB 2 501\nT 1001\n.".as_slice());
     Ok(())
 }
 
