@@ -21,7 +21,7 @@ use Rattle.rules.proofs.Ranges.{checks-ranges}
 use Rattle.sources.specs.declared.reading.Reading.{Reading}
 use Rattle.plain.specs.Branches.{branch_count}
 use Rattle.plain.specs.Changes.{posted, amended}
-use Rattle.plain.specs.Due.{Case, FirstDue, ◌due-if◌, source's-fault, BelowZero, NoBranch, NoEntry, OfOpen, IsBond, BondPasses, RuleRefuses, RefusedWhenDue}
+use Rattle.plain.specs.Due.{Case, FirstDue, ◌due_if◌, source_fault, BelowZero, NoBranch, NoEntry, OfOpen, IsBond, BondPasses, RuleRefuses, RefusedWhenDue}
 use Rattle.plain.specs.Exposures.{is_bond, exposure_to, denominator_of}
 use Rattle.plain.specs.Limits.{most_investees, most_positions, most_balance, most_exposure}
 use Rattle.plain.specs.Parts.{Denominator, at_least, whole}
@@ -38,7 +38,7 @@ none-due = refl
 
 -- a test that passes just where the refusal is due
 pub due-refuse : (Holds : Type 0) (test : Bool) (refusal : Refusal) (next : Option Fault) (later : List Case) → (Holds → test ≡ true) → (test ≡ true → Holds) → (test ≡ false → FirstDue later next)
-    → FirstDue ((refusal due-if Holds) ∷ later) (refuse test refusal next)
+    → FirstDue ((refusal due_if Holds) ∷ later) (refuse test refusal next)
 unfolding FirstDue
 due-refuse Holds test refusal next later to from rest = (
   λ f h. cond-true test _ _ (to h.0) ∙ ap Some (sym h.1),
@@ -52,20 +52,20 @@ none-some : {X : Type 0} (x : X) → None ≡ Some x → ⊥
 none-some x e = let z : ◌≡◌ {A = ℕ} 0 1 = cc in omega arith
 
 due-open : (id : ℕ) (p : PlainBook) (next : PlainInvestee → Option Fault) (later : List Case) → ((x : PlainInvestee) → investee_of id p ≡ Some x → FirstDue later (next x))
-    → FirstDue ((NotOpen due-if (is_open id p ≡ false)) ∷ later) (if_open (investee_of id p) next)
+    → FirstDue ((NotOpen due_if (is_open id p ≡ false)) ∷ later) (if_open (investee_of id p) next)
 unfolding FirstDue
 due-open id p next later rest = by (investee_of id p) refl
   where
-    by : (o : Option PlainInvestee) → investee_of id p ≡ o → FirstDue ((NotOpen due-if (is_open id p ≡ false)) ∷ later) (if_open o next)
+    by : (o : Option PlainInvestee) → investee_of id p ≡ o → FirstDue ((NotOpen due_if (is_open id p ≡ false)) ∷ later) (if_open o next)
     by None e = (λ f h. ap Some (sym h.1), λ none. absurd (none (fault NotOpen 0 0) (ap is_some e, refl)))
     by (Some x) e = (λ f h. absurd (both_ways (is_open id p) h.0 (ap is_some e)), λ none. rest x e)
 
-due-source : (meaning : Meaning) (next : Reading → Option Fault) (later : List Case) → ((r : Reading) → meaning ≡ Ok r → FirstDue later (next r)) → FirstDue (source's-fault meaning ∷ later) (if_read meaning next)
+due-source : (meaning : Meaning) (next : Reading → Option Fault) (later : List Case) → ((r : Reading) → meaning ≡ Ok r → FirstDue later (next r)) → FirstDue (source_fault meaning ∷ later) (if_read meaning next)
 unfolding FirstDue
 due-source (Ok r) next later rest = (λ f e. let z : ◌≡◌ {A = ℕ} 0 1 = cc in absurd (omega arith), λ none. rest r refl)
 due-source (Err g) next later rest = (λ f e. let same : g ≡ f = cc in ap Some same, λ none. absurd (none g refl))
 
-due_below : (meaning : Meaning) (r : Reading) → meaning ≡ Ok r → FirstDue ((ReadingBelowZero due-if BelowZero meaning) ∷ []) (below_zero r)
+due_below : (meaning : Meaning) (r : Reading) → meaning ≡ Ok r → FirstDue ((ReadingBelowZero due_if BelowZero meaning) ∷ []) (below_zero r)
 due_below meaning r e =
     due-refuse (BelowZero meaning) (lt_z r.kilograms (pos 0)) ReadingBelowZero None []
     (λ h. let same : h.0 ≡ r = cc in subst (λ (x : Reading). lt_z x.kilograms (pos 0) ≡ true) same (under h.0.kilograms h.2))
@@ -131,12 +131,12 @@ module _ (id : ℕ) (p : PlainBook) (x : PlainInvestee) (found : investee_of id 
       subst P is h.2
 
   due-found : (P : PlainInvestee → Type 0) (test : Bool) (refusal : Refusal) (next : Option Fault) (later : List Case) → (P x → test ≡ true) → (test ≡ true → P x) → FirstDue later next
-      → FirstDue ((refusal due-if OfOpen id p P) ∷ later) (refuse test refusal next)
+      → FirstDue ((refusal due_if OfOpen id p P) ∷ later) (refuse test refusal next)
   due-found P test refusal next later to from rest =
       due-refuse (OfOpen id p P) test refusal next later (λ h. to (same-one P h)) (λ e. (x, found, from e)) (λ _. rest)
 
   due-outside : (m : ℕ) (next : Option Fault) (later : List Case) → FirstDue later next
-      → FirstDue ((BondOutsideClosingMonth due-if OfOpen id p (λ y. IsBond y × (m ≢ months))) ∷ later) (refuse (bond_outside_closing x m) BondOutsideClosingMonth next)
+      → FirstDue ((BondOutsideClosingMonth due_if OfOpen id p (λ y. IsBond y × (m ≢ months))) ∷ later) (refuse (bond_outside_closing x m) BondOutsideClosingMonth next)
   due-outside m next later rest =
       due-found (λ y. IsBond y × (m ≢ months)) (bond_outside_closing x m) BondOutsideClosingMonth next later
       (λ h. and_from _ _ (is-bond x.profile.kind h.0) (not_from_false _ (ne_eqb m months h.1)))
@@ -151,7 +151,7 @@ module _ (id : ℕ) (p : PlainBook) (x : PlainInvestee) (found : investee_of id 
   past s whole e = let z : ◌≡◌ {A = ℕ} 0 1 = cc in absurd (omega arith)
 
   due-lent : (t : Tables) (qs : List PlainPosition)
-      → FirstDue ((ExposureTooLarge due-if OfOpen id p (λ y. most_exposure < exposure_to y qs)) ∷ (BondAboveDenominator due-if OfOpen id p (BondPasses t qs)) ∷ []) (too_much_lent t x qs)
+      → FirstDue ((ExposureTooLarge due_if OfOpen id p (λ y. most_exposure < exposure_to y qs)) ∷ (BondAboveDenominator due_if OfOpen id p (BondPasses t qs)) ∷ []) (too_much_lent t x qs)
   due-lent t qs =
       due-found (λ y. most_exposure < exposure_to y qs) (ltb most_exposure (exposure_to x qs)) ExposureTooLarge _ _ (lt-ltb most_exposure (exposure_to x qs)) (ltb-true most_exposure (exposure_to x qs))
       (due-found (BondPasses t qs) (is_bond x.profile.kind && passes (exposure_to x qs) (denominator_of t x)) BondAboveDenominator None []
@@ -202,11 +202,11 @@ profiled-from f (Some k) (Some z) x p e = by (numbers_in_range f) e
     by false e = let n : ◌≡◌ {A = ℕ} 0 1 = cc in absurd (omega arith)
 
 due-fields : (f : InvesteeFields) (next : Profile → Option Fault) (later : List Case) → ((x : Profile) → profile_of f ≡ Ok x → Profiled f x → FirstDue later (next x))
-    → FirstDue ((FieldOutOfRange due-if (WithinRanges f → ⊥)) ∷ later) (if_in_range (profile_of f) next)
+    → FirstDue ((FieldOutOfRange due_if (WithinRanges f → ⊥)) ∷ later) (if_in_range (profile_of f) next)
 unfolding FirstDue
 due-fields f next later rest = by (profile_of f) refl
   where
-    by : (r : Result Profile Fault) → profile_of f ≡ r → FirstDue ((FieldOutOfRange due-if (WithinRanges f → ⊥)) ∷ later) (if_in_range r next)
+    by : (r : Result Profile Fault) → profile_of f ≡ r → FirstDue ((FieldOutOfRange due_if (WithinRanges f → ⊥)) ∷ later) (if_in_range r next)
     by (Ok x) e = (
       λ g h. let wrong : profile_of f ≡ out_of_range = (checks-ranges f).refused h.0 in let n : ◌≡◌ {A = ℕ} 0 1 = cc in absurd (omega arith),
       λ none. rest x e (profiled-from f (kind_numbered f.kind) (size_numbered f.size) x refl e),
@@ -221,7 +221,7 @@ due-fields f next later rest = by (profile_of f) refl
 
 due-based : (r : Result Base Refusal) (NotCovered NotGiven : Type 0) (next : Option Fault) (later : List Case) → BaseInRange r
     → (NotCovered → r ≡ Err KindNotCovered) → (r ≡ Err KindNotCovered → NotCovered) → (NotGiven → r ≡ Err FigureNotGiven) → (r ≡ Err FigureNotGiven → NotGiven) → FirstDue later next
-    → FirstDue ((KindNotCovered due-if NotCovered) ∷ (FigureNotGiven due-if NotGiven) ∷ later) (if_based r next)
+    → FirstDue ((KindNotCovered due_if NotCovered) ∷ (FigureNotGiven due_if NotGiven) ∷ later) (if_based r next)
 unfolding FirstDue
 due-based (Ok b) C G next later range c-to c-from g-to g-from rest = (
   λ f h. let e = c-to h.0 in let n : ◌≡◌ {A = ℕ} 0 1 = cc in absurd (omega arith),
@@ -229,7 +229,7 @@ due-based (Ok b) C G next later range c-to c-from g-to g-from rest = (
 )
 due-based (Err e) C G next later range c-to c-from g-to g-from rest = by range
   where
-    by : (e ≡ KindNotCovered) ⊎ (e ≡ FigureNotGiven) → FirstDue ((KindNotCovered due-if C) ∷ (FigureNotGiven due-if G) ∷ later) (Some (fault e 0 0))
+    by : (e ≡ KindNotCovered) ⊎ (e ≡ FigureNotGiven) → FirstDue ((KindNotCovered due_if C) ∷ (FigureNotGiven due_if G) ∷ later) (Some (fault e 0 0))
     by (inl k) = (λ f h. ap Some (ap (λ r. fault r 0 0) k ∙ sym h.1), λ none. absurd (none (fault KindNotCovered 0 0) (c-from (ap Err k), refl)))
     by (inr k) = (
       λ f h. let wrong : Err e ≡ Err KindNotCovered = c-to h.0 in let n : ◌≡◌ {A = ℕ} 0 1 = cc in absurd (omega arith),

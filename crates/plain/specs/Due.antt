@@ -32,13 +32,13 @@ FirstDue [] r = r ≡ None
 FirstDue (Due ∷ later) r = ((f : Fault) → Due f → r ≡ Some f) × (((f : Fault) → Due f → ⊥) → FirstDue later r)
 
 -- a refusal, where something holds
-infix 3 ◌due-if◌
-abbrev pub ◌due-if◌ : Refusal → Type 0 → Case
-◌due-if◌ refusal Holds f = Holds × (f ≡ fault refusal 0 0)
+infix 3 ◌due_if◌
+abbrev pub ◌due_if◌ : Refusal → Type 0 → Case
+◌due_if◌ refusal Holds f = Holds × (f ≡ fault refusal 0 0)
 
 -- the source's own fault
-abbrev pub source's-fault : Meaning → Case
-source's-fault meaning f = meaning ≡ Err f
+abbrev pub source_fault : Meaning → Case
+source_fault meaning f = meaning ≡ Err f
 
 -- ---- what the refusals speak of
 
@@ -69,36 +69,36 @@ BondPasses t qs x = IsBond x × ((w : ℕ) × (denominator_of t x ≡ at_least w
 
 abbrev pub cases : Tables → PlainBook → Step → List Case
 cases t p (enter fields meaning) =
-    (FieldOutOfRange due-if (WithinRanges fields → ⊥))
-    ∷ (AlreadyOpen due-if (is_open fields.id p ≡ true))
-    ∷ (InvesteesFull due-if (most_investees ≤ length p.investees))
-    ∷ (KindNotCovered due-if RuleRefuses t fields KindNotCovered)
-    ∷ (FigureNotGiven due-if RuleRefuses t fields FigureNotGiven)
-    ∷ source's-fault meaning
-    ∷ (ReadingBelowZero due-if BelowZero meaning)
+    (FieldOutOfRange due_if (WithinRanges fields → ⊥))
+    ∷ (AlreadyOpen due_if (is_open fields.id p ≡ true))
+    ∷ (InvesteesFull due_if (most_investees ≤ length p.investees))
+    ∷ (KindNotCovered due_if RuleRefuses t fields KindNotCovered)
+    ∷ (FigureNotGiven due_if RuleRefuses t fields FigureNotGiven)
+    ∷ source_fault meaning
+    ∷ (ReadingBelowZero due_if BelowZero meaning)
     ∷ []
-cases t p (restate id meaning) = (NotOpen due-if (is_open id p ≡ false)) ∷ source's-fault meaning ∷ (ReadingBelowZero due-if BelowZero meaning) ∷ []
-cases t p (reduce id meaning) = (NotOpen due-if (is_open id p ≡ false)) ∷ source's-fault meaning ∷ []
+cases t p (restate id meaning) = (NotOpen due_if (is_open id p ≡ false)) ∷ source_fault meaning ∷ (ReadingBelowZero due_if BelowZero meaning) ∷ []
+cases t p (reduce id meaning) = (NotOpen due_if (is_open id p ≡ false)) ∷ source_fault meaning ∷ []
 cases t p (post b id m v) =
-    (EntryOutOfRange due-if NoEntry b m v)
-    ∷ (NotOpen due-if (is_open id p ≡ false))
-    ∷ (BondOutsideClosingMonth due-if OfOpen id p (λ x. IsBond x × (m ≢ months)))
-    ∷ (MonthAlreadyPosted due-if (is_posted b id m p.positions ≡ true))
-    ∷ (PositionsFull due-if ((is_some (position_of b id p.positions) ≡ false) × (most_positions ≤ length p.positions)))
-    ∷ (ExposureTooLarge due-if OfOpen id p (λ x. most_exposure < exposure_to x (posted b id m v p.positions)))
-    ∷ (BondAboveDenominator due-if OfOpen id p (BondPasses t (posted b id m v p.positions)))
+    (EntryOutOfRange due_if NoEntry b m v)
+    ∷ (NotOpen due_if (is_open id p ≡ false))
+    ∷ (BondOutsideClosingMonth due_if OfOpen id p (λ x. IsBond x × (m ≢ months)))
+    ∷ (MonthAlreadyPosted due_if (is_posted b id m p.positions ≡ true))
+    ∷ (PositionsFull due_if ((is_some (position_of b id p.positions) ≡ false) × (most_positions ≤ length p.positions)))
+    ∷ (ExposureTooLarge due_if OfOpen id p (λ x. most_exposure < exposure_to x (posted b id m v p.positions)))
+    ∷ (BondAboveDenominator due_if OfOpen id p (BondPasses t (posted b id m v p.positions)))
     ∷ []
 cases t p (amend b id m v) =
-    (EntryOutOfRange due-if NoEntry b m v)
-    ∷ (NotOpen due-if (is_open id p ≡ false))
-    ∷ (BondOutsideClosingMonth due-if OfOpen id p (λ x. IsBond x × (m ≢ months)))
-    ∷ (MonthNotPosted due-if (is_posted b id m p.positions ≡ false))
-    ∷ (ExposureTooLarge due-if OfOpen id p (λ x. most_exposure < exposure_to x (amended b id m v p.positions)))
-    ∷ (BondAboveDenominator due-if OfOpen id p (BondPasses t (amended b id m v p.positions)))
+    (EntryOutOfRange due_if NoEntry b m v)
+    ∷ (NotOpen due_if (is_open id p ≡ false))
+    ∷ (BondOutsideClosingMonth due_if OfOpen id p (λ x. IsBond x × (m ≢ months)))
+    ∷ (MonthNotPosted due_if (is_posted b id m p.positions ≡ false))
+    ∷ (ExposureTooLarge due_if OfOpen id p (λ x. most_exposure < exposure_to x (amended b id m v p.positions)))
+    ∷ (BondAboveDenominator due_if OfOpen id p (BondPasses t (amended b id m v p.positions)))
     ∷ []
-cases t p (ask_part id b) = (EntryOutOfRange due-if NoBranch b) ∷ (NotOpen due-if (is_open id p ≡ false)) ∷ []
-cases t p (ask_total id) = (NotOpen due-if (is_open id p ≡ false)) ∷ []
-cases t p (ask_sheet b) = (EntryOutOfRange due-if NoBranch b) ∷ []
+cases t p (ask_part id b) = (EntryOutOfRange due_if NoBranch b) ∷ (NotOpen due_if (is_open id p ≡ false)) ∷ []
+cases t p (ask_total id) = (NotOpen due_if (is_open id p ≡ false)) ∷ []
+cases t p (ask_sheet b) = (EntryOutOfRange due_if NoBranch b) ∷ []
 cases t p ask_book_total = []
 
 abbrev pub RefusedWhenDue : Type 0
