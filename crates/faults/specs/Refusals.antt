@@ -1,5 +1,5 @@
 -- Refusals with their numbers, and faults.
-use Rattle.std.specs.Prelude.{ℕ}
+use Rattle.std.specs.Prelude.{ℕ, List, ◌++◌, codes, decimal}
 use Rattle.faults.specs.declared.Fault.{Fault}
 use Rattle.faults.specs.declared.Refusal.{Refusal}
 use Rattle.faults.specs.declared.Refusal.TheVariants.{FigureOutOfRange, NeitherVerifiedNorDisclosed, TermCount, ResultTooLarge, OverseasAboveReading, OffsetsAboveReading, KindNotCovered, FigureNotGiven, FieldOutOfRange, ReadingBelowZero, AlreadyOpen, InvesteesFull, NotOpen, EntryOutOfRange, BondOutsideClosingMonth, MonthAlreadyPosted, MonthNotPosted, PositionsFull, ExposureTooLarge, BondAboveDenominator, FieldNotAsLaidOut, FileBeyondLimits, LineMissing, PageTooShort, OwnItem, Custom}
@@ -61,3 +61,7 @@ number_of (Custom n) = n
 
 abbrev pub fault : Refusal → ℕ → ℕ → Fault
 fault refusal place source = record { refusal = refusal; place = place; source = source }
+
+-- a fault as it is printed
+abbrev pub fault_text : Fault → List ℕ
+fault_text f = codes "refusal " ++ (decimal (number_of f.refusal) ++ (codes ", place " ++ (decimal f.place ++ (codes ", source " ++ decimal f.source))))

@@ -1,8 +1,10 @@
 // Why a call is declined, and where.
 #![tactic(auto)]
 
-ghost use Rattle.std.specs.Prelude.{◌≡◌};
-ghost use Rattle.faults.specs.Refusals.{fault, number_of};
+ghost use Rattle.std.specs.Prelude.{◌≡◌, Some};
+ghost use Rattle.faults.specs.Refusals.{fault, fault_text, number_of};
+
+use std::fmt;
 
 // The reasons for which a call can be declined; docs/REFUSALS.md has each with its number.
 #[derive(Clone, Copy, Debug, PartialEq, Eq)]
@@ -102,5 +104,60 @@ impl Fault {
         ensures { result ≡ fault refusal 0 0 }
     {
         Fault::at(refusal, 0)
+    }
+}
+
+// `?` makes a plain fault of a refusal.
+impl From<Refusal> for Fault {
+    ghost from_gives = { λ refusal made. made ≡ fault refusal 0 0 };
+
+    fn from(refusal: Refusal) -> Fault {
+        Fault::plain(refusal)
+    }
+}
+
+// Such as `refusal 1, place 2, source 2`.
+impl fmt::Display for Fault {
+    ghost output = { λ f. Some (fault_text f) };
+
+    fn fmt<W: fmt::Write>(&self, f: &mut fmt::Formatter<W>) -> fmt::Result {
+        write!(
+            f,
+            "refusal {}, place {}, source {}",
+            self.refusal.number(),
+            self.place,
+            self.source
+        )
+    }
+}
+
+#[cfg(test)]
+mod tests {
+    use super::{Fault, Refusal};
+    use std::test::Fail;
+
+    fn declined(refusal: Refusal) -> Result<(), Refusal> {
+        Err(refusal)
+    }
+
+    fn passed_on(refusal: Refusal) -> Result<(), Fault> {
+        declined(refusal)?;
+        Ok(())
+    }
+
+    #[test]
+    fn converts_and_prints(rt: HostRuntime) -> Result<(), Fail> {
+        assert_eq!(rt;
+            passed_on(Refusal::NotOpen),
+            Err(Fault::plain(Refusal::NotOpen))
+        );
+        let fault = Fault {
+            refusal: Refusal::FigureOutOfRange,
+            place: 2,
+            source: 3,
+        };
+        let text = format!(in rt.alloc(); "{fault}")?;
+        assert_eq!(rt; text.as_str(), "refusal 1, place 2, source 3");
+        Ok(())
     }
 }
