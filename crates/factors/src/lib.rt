@@ -1,8 +1,12 @@
 // Emission factors, and the kilograms that an activity comes to.
 #![tactic(auto)]
 
-ghost use Rattle.std.specs.Prelude.{◌≡◌};
+ghost use Rattle.std.specs.Prelude.{◌≡◌, ◌++◌, Some, codes, decimal};
+ghost use Rattle.std.specs.Option.{ok_or};
 ghost use Rattle.factors.specs.Factors.{row_numbered, factor_of, tenths_of, kilograms_of, rounded_up, LeastWhole};
+
+use std::error::Error;
+use std::fmt;
 
 // The largest quantity of an activity, in its row's unit.
 pub const MOST_QUANTITY: u64 = 10_000_000_000;
@@ -18,22 +22,40 @@ pub enum Row {
     PowerElsewhere,
 }
 
-impl Row {
-    // The row of a number from 1 to 6.
-    pub fn numbered(number: u64) -> Option<Row>
-        ensures { result ≡ row_numbered number }
-    {
+// A number that is no row's.
+#[derive(Clone, Copy, Debug, PartialEq, Eq)]
+pub struct UnknownRow(pub u64);
+
+impl fmt::Display for UnknownRow {
+    ghost output = { λ e. Some (codes "no row has the number " ++ decimal e.0) };
+
+    fn fmt<W: fmt::Write>(&self, f: &mut fmt::Formatter<W>) -> fmt::Result {
+        write!(f, "no row has the number {}", self.0)
+    }
+}
+
+impl Error for UnknownRow {}
+
+// The row of a number from 1 to 6.
+impl TryFrom<u64> for Row {
+    type Error = UnknownRow;
+
+    ghost try_from_gives = { λ number result. result ≡ ok_or (row_numbered number) (record { 0 = number }) };
+
+    fn try_from(number: u64) -> Result<Row, UnknownRow> {
         match number {
-            1 => Some(Row::Coal),
-            2 => Some(Row::Petrol),
-            3 => Some(Row::Diesel),
-            4 => Some(Row::Gas),
-            5 => Some(Row::PowerInShanghai),
-            6 => Some(Row::PowerElsewhere),
-            _ => None,
+            1 => Ok(Row::Coal),
+            2 => Ok(Row::Petrol),
+            3 => Ok(Row::Diesel),
+            4 => Ok(Row::Gas),
+            5 => Ok(Row::PowerInShanghai),
+            6 => Ok(Row::PowerElsewhere),
+            _ => Err(UnknownRow(number)),
         }
     }
+}
 
+impl Row {
     // Tenths of a gram of CO2 equivalent for one unit of the row.
     pub fn factor(self) -> u64
         ensures { result ≡ factor_of self }
@@ -72,7 +94,7 @@ impl Activity {
         if self.quantity > MOST_QUANTITY {
             return None;
         }
-        let row = Row::numbered(self.row)?;
+        let row = Row::try_from(self.row).ok()?;
         Some(row.factor() * self.quantity)
     }
 
@@ -81,5 +103,20 @@ impl Activity {
         ensures { result ≡ kilograms_of self }
     {
         Some(whole_kilograms(self.tenths_of_gram()?))
+    }
+}
+
+#[cfg(test)]
+mod tests {
+    use super::{Row, UnknownRow};
+    use std::test::Fail;
+
+    #[test]
+    fn rows_of_numbers(rt: HostRuntime) -> Result<(), Fail> {
+        assert_eq!(rt; Row::try_from(6), Ok(Row::PowerElsewhere));
+        assert_eq!(rt; Row::try_from(7), Err(UnknownRow(7)));
+        let text = format!(in rt.alloc(); "{}", UnknownRow(7))?;
+        assert_eq!(rt; text.as_str(), "no row has the number 7");
+        Ok(())
     }
 }
