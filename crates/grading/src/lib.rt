@@ -4,6 +4,8 @@
 ghost use Rattle.std.specs.Prelude.{◌≡◌, ℕ, ◌*◌, ◌<◌, ◌≤◌, min, sum_by};
 ghost use Rattle.grading.specs.Mean.{mean_of, half_up, nearest_hundredths, Summed, IsNearest, IsNearestMean};
 
+pub mod hundredths;
+
 pub trait Graded {
     // How much the record counts.
     ghost weight: { Self → ℕ };
