@@ -1,8 +1,8 @@
 // One mean for every kind of record that has a weight and a grade.
 #![tactic(auto)]
 
-ghost use Rattle.std.specs.Prelude.{◌≡◌, ℕ, ◌*◌, ◌<◌, ◌≤◌, min, sum_by};
-ghost use Rattle.grading.specs.Mean.{mean_of, half_up, nearest_hundredths, Summed, IsNearest, IsNearestMean};
+ghost use Rattle.std.specs.Prelude.{◌≡◌, ℕ, ◌*◌, ◌≤◌, min, sum_by};
+ghost use Rattle.grading.specs.Mean.{mean_of, nearest_hundredths, Summed, IsNearest, IsNearestMean};
 
 pub mod hundredths;
 
@@ -22,16 +22,7 @@ pub trait Graded {
         ensures bound { result ≤ 5 };
 }
 
-// 100 × `sum` / `total`, nearest, half up.
-fn half_up(sum: u128, total: u128) -> u128
-    requires summed { Summed sum total }
-    requires some { 0 < total }
-    ensures { result ≡ half_up sum total }
-{
-    (200 * sum + total) / (2 * total)
-}
-
-// The same in few bits; nothing where the total is 0.
+// 100 × `sum` / `total`, nearest, half up; nothing where the total is 0.
 fn nearest_hundredths(sum: u128, total: u128) -> Option<u32>
     requires { Summed sum total }
     ensures value { result ≡ nearest_hundredths sum total }
@@ -40,10 +31,11 @@ fn nearest_hundredths(sum: u128, total: u128) -> Option<u32>
     if total == 0 {
         return None;
     }
-    Some(half_up(sum, total) as u32)
+    Some(((200 * sum + total) / (2 * total)) as u32)
 }
 
-// Weight × grade and weight, each added up.
+// Weight × grade and weight, each added up. One pass by hand: in the sum of a chain the bound of each weight is not
+// known, and each record would be asked twice.
 fn sums<T: Graded>(records: &[T]) -> (u128, u128)
     ensures graded { result.0 ≡ sum_by (λ x. T.weight x * T.grade x) records.now }
     ensures weights { result.1 ≡ sum_by T.weight records.now }

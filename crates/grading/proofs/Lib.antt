@@ -1,2 +1,0 @@
-pub mod Nearest
-pub mod Sofar
