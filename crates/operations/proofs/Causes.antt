@@ -1,8 +1,13 @@
 -- What the refusal of a table says of its items.
-use Rattle.std.proofs.Common.{◌≡◌, ℕ, ◌+◌, ◌<◌, ◌≤◌, Bool, true, false, cond, ltb, List, [], ◌∷◌, length, Option, sym, refl, ap, ◌∙◌, subst, inl, inr, ⊎_elim, arith}
-use Rattle.std.specs.List.{prefix_len, AllByRecursion}
+use Rattle.std.proofs.Common.{◌≡◌, ℕ, ◌+◌, ◌<◌, ◌≤◌, Bool, true, false, cond, ltb, List, [], ◌∷◌, length, Some, None, Option, sym, refl, ap, ◌∙◌, subst, inl, inr, ⊎_elim, arith}
+use Rattle.std.specs.List.{prefix_len, AllByRecursion, AllWithin, HoldsAt}
+use Rattle.std.specs.Option.{MatchOption, option_map, unwrap_or}
+use Rattle.std.proofs.lemmas.Iterator.{index_from_first}
 use Rattle.std.proofs.lemmas.Bool.{cases_Bool, cases_lt, lt-ltb, le-ltb, cond-true, cond-false}
+use Rattle.std.proofs.lemmas.Bool.Decides.{nat_tests}
 use Rattle.faults.specs.declared.Fault.{Fault}
+use Rattle.faults.specs.declared.Refusal.TheVariants.{OwnItem}
+use Rattle.faults.specs.Refusals.{fault}
 use Rattle.operations.specs.declared.items.Item.{Item}
 use Rattle.operations.specs.Items.{acceptable}
 use Rattle.operations.specs.Tables.{refusal_of, FirstRefused, RefusedFor}
@@ -32,6 +37,18 @@ first-refused (x ∷ xs) h = by (acceptable x) refl (first-refused xs) h
           refused = more.refused;
           counted = omega (arith, more.counted);
         }
+
+-- a search for the first item that is not acceptable answers the refusal of a table that is not too long
+pub refusal-from-first : (xs : List Item) (r : Option ℕ) → length xs ≤ 64
+    → MatchOption r (AllWithin (λ x. acceptable x ≡ true) xs 0 (length xs)) (λ i. (i < length xs) × HoldsAt (λ x. acceptable x ≡ false) xs i × AllWithin (λ x. acceptable x ≡ true) xs 0 i)
+    → refusal_of xs ≡ option_map (λ i. fault OwnItem (i + 1) 0) r
+refusal-from-first xs r few first = by r first (index_from_first (prefix_len acceptable) (λ x. acceptable x ≡ false) (λ x. acceptable x ≡ true) refl (λ x xs e. grind (arith, e)) (λ x xs e. grind (arith, e)) xs r first)
+  where
+    by : (r : Option ℕ)
+        → MatchOption r (AllWithin (λ x. acceptable x ≡ true) xs 0 (length xs)) (λ i. (i < length xs) × HoldsAt (λ x. acceptable x ≡ false) xs i × AllWithin (λ x. acceptable x ≡ true) xs 0 i)
+        → prefix_len acceptable xs ≡ unwrap_or r (length xs) → refusal_of xs ≡ option_map (λ i. fault OwnItem (i + 1) 0) r
+    by None h e = grind (arith, nat_tests, e)
+    by (Some i) h e = let lt : i < length xs = h.0 in grind (arith, nat_tests, e)
 
 pub refused-for : (xs : List Item) (r : Option Fault) → r ≡ refusal_of xs → RefusedFor xs r
 refused-for xs r e = subst (RefusedFor xs) (sym e) (⊎_elim many few (cases_lt 64 (length xs)))

@@ -61,25 +61,19 @@ impl Item {
     pub fn kilograms_in(self) -> Option<u64>
         ensures { result ≡ kilograms_in self }
     {
-        if self.grade < 1 || self.grade > 5 {
+        if !(1..=5).contains(&self.grade) {
             return None;
         }
-        match self.activity.kilograms() {
-            Some(k) if within_limit(k) => Some(k),
-            _ => None,
-        }
+        self.activity.kilograms().filter(|&k| within_limit(k))
     }
 
     // The item with its kilograms written.
     pub fn worked(self) -> Item
         ensures { result ≡ worked self }
     {
-        match self.kilograms_in() {
-            Some(k) => Item {
-                kilograms: k,
-                ..self
-            },
-            None => self,
+        Item {
+            kilograms: self.kilograms_in().unwrap_or(self.kilograms),
+            ..self
         }
     }
 }
