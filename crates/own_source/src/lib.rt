@@ -29,7 +29,7 @@ pub struct Measured<'a> {
     pub log: &'a GaugeLog,
 }
 
-impl<'a> Source for Measured<'a> {
+impl Source for Measured<'_> {
     const NUMBER: u32 = 101;
 
     ghost meaning = { λ s. measured_meaning s.log.now };

@@ -1,9 +1,9 @@
 // Prints what each source and layer reads for a table of cases.
 #![tactic(auto)]
 
+use either::{Left, Right};
 use factors::Activity;
 use sources::economic::Economic;
-use sources::either::Either;
 use sources::estimate::{Estimate, EstimateFigures};
 use sources::layout::line;
 use sources::offset::{Offset, OffsetFigures};
@@ -210,7 +210,7 @@ fn mixed(rt: &HostRuntime) -> io::Result<()> {
         kilograms: 7,
         mark: 2,
     };
-    let sources = [Either::One(report), Either::Other(layered)];
+    let sources = [Left(report), Right(layered)];
     for source in sources.iter() {
         show(rt, "one of a mixed list", source)?;
     }

@@ -1,2 +1,1 @@
-pub mod Periods
 pub mod Terms

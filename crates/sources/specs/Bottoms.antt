@@ -2,7 +2,7 @@
 --   cond b x y    x where the test b holds, else y
 --   nat_lt a b    whether a < b, so that `nat_lt most n` says that n is above its limit
 --   fault r p s   the refusal r at the place p, found by the source of number s
-use Rattle.std.specs.Prelude.{ℕ, ◌+◌, ◌*◌, Bool, cond, ◌||◌, List, length, pos, is_some, Ok, Err, sum_by, Result, ◌==◌, nat_lt}
+use Rattle.std.specs.Prelude.{ℕ, ◌+◌, ◌*◌, Bool, cond, ◌||◌, List, length, pos, is_some, Some, None, Option, Ok, Err, sum_by, Result, ◌==◌, nat_lt}
 use Rattle.std.specs.Option.{unwrap_or}
 use Rattle.std.specs.List.{prefix_len}
 use Rattle.factors.specs.Factors.{tenths_of, rounded_up}
@@ -13,6 +13,18 @@ use Rattle.faults.specs.declared.Refusal.TheVariants.{FigureOutOfRange, NeitherV
 use Rattle.sources.specs.Limits.{most_kilograms, most_terms, most_output, most_mean, reported_number, physical_number, economic_number}
 use Rattle.sources.specs.Readings.{reading, worked_out, on_ok}
 use Rattle.sources.specs.declared.reading.Reading.{Reading}
+use Rattle.sources.specs.declared.reported.Mark.{Mark}
+use Rattle.sources.specs.declared.reported.Mark.TheVariants.{Neither, Verified, Disclosed}
+
+-- the number that a caller sends for a mark
+abbrev pub number_of_mark : Mark → ℕ
+number_of_mark Neither = 0
+number_of_mark Verified = 1
+number_of_mark Disclosed = 2
+
+-- the mark of a number
+abbrev pub mark_numbered : ℕ → Option Mark
+mark_numbered n = cond (n == 0) (Some Neither) (cond (n == 1) (Some Verified) (cond (n == 2) (Some Disclosed) None))
 
 -- reported: the mark is 1 for verified by a third party, 2 for publicly disclosed, 0 for neither
 abbrev pub reported_meaning : ℕ → ℕ → Result Reading Fault

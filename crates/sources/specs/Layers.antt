@@ -9,8 +9,8 @@ use Rattle.faults.specs.declared.Fault.{Fault}
 use Rattle.faults.specs.declared.Refusal.TheVariants.{FigureOutOfRange, OverseasAboveReading, OffsetsAboveReading}
 use Rattle.sources.specs.Limits.{most_kilograms, most_period_output, most_offset, estimate_number, overseas_number, offset_number}
 use Rattle.sources.specs.Readings.{worked_out, less, on_ok}
-use Rattle.sources.specs.declared.either.Either.{Either}
-use Rattle.sources.specs.declared.either.Either.TheVariants.{One, Other}
+use Rattle.either.specs.declared.Either.{Either}
+use Rattle.either.specs.declared.Either.TheVariants.{Left, Right}
 use Rattle.sources.specs.declared.estimate.EstimateFigures.{EstimateFigures}
 use Rattle.sources.specs.declared.offset.OffsetFigures.{OffsetFigures}
 use Rattle.sources.specs.declared.overseas.OverseasFigures.{OverseasFigures}
@@ -55,5 +55,5 @@ offset_meaning f below =
 
 -- one of two sources means what that source means
 abbrev pub either_meaning : {A B : Type 0} → (A → Result Reading Fault) → (B → Result Reading Fault) → Either A B → Result Reading Fault
-either_meaning one other (One source) = one source
-either_meaning one other (Other source) = other source
+either_meaning one other (Left source) = one source
+either_meaning one other (Right source) = other source

@@ -12,8 +12,8 @@ use Rattle.sources.specs.Bottoms.{reported_meaning, added, physical_meaning, eco
 use Rattle.sources.specs.Layers.{estimate_out_of_range, expected, estimate_meaning, overseas_meaning, offset_out_of_range, offset_sum, offset_meaning, either_meaning}
 use Rattle.sources.specs.Limits.{most_kilograms, most_terms, most_output, most_mean, physical_number, economic_number, estimate_number, overseas_number, offset_number}
 use Rattle.sources.specs.Readings.{InLimits, WithinLimits, worked_out, less, on_ok}
-use Rattle.sources.specs.declared.either.Either.{Either}
-use Rattle.sources.specs.declared.either.Either.TheVariants.{One, Other}
+use Rattle.either.specs.declared.Either.{Either}
+use Rattle.either.specs.declared.Either.TheVariants.{Left, Right}
 use Rattle.sources.specs.declared.estimate.EstimateFigures.{EstimateFigures}
 use Rattle.sources.specs.declared.offset.OffsetFigures.{OffsetFigures}
 use Rattle.sources.specs.declared.overseas.OverseasFigures.{OverseasFigures}
@@ -79,5 +79,5 @@ offset-within f below h =
     (λ _. on-ok-within _ below (λ r e. less-within (offset_sum f) OffsetsAboveReading offset_number r (at_ok below r e h)))
 
 pub either-within : {A B : Type 0} (one : A → Result Reading Fault) (other : B → Result Reading Fault) → ((a : A) → WithinLimits (one a)) → ((b : B) → WithinLimits (other b)) → (s : Either A B) → WithinLimits (either_meaning one other s)
-either-within one other p q (One source) = p source
-either-within one other p q (Other source) = q source
+either-within one other p q (Left source) = p source
+either-within one other p q (Right source) = q source

@@ -1,7 +1,5 @@
 // Emissions taken from the mean of a sector.
-ghost use Rattle.std.specs.Prelude.{◌≡◌, ◌*◌, ◌≤◌};
 ghost use Rattle.sources.specs.Bottoms.{economic_meaning};
-ghost use Rattle.sources.specs.Limits.{most_output, most_mean};
 ghost use Rattle.sources.specs.Within.{economic-within};
 
 use crate::reading::{Reading, found};
@@ -21,16 +19,6 @@ pub struct Economic {
     pub mean: u64,
 }
 
-// The kilograms of an output at a mean.
-fn product(output: u64, mean: u64) -> u64
-    requires output_within { output ≤ most_output }
-    requires mean_within { mean ≤ most_mean }
-    ensures value { result ≡ output * mean }
-    ensures bound { result ≤ most_output * most_mean }
-{
-    output * mean
-}
-
 impl Source for Economic {
     const NUMBER: u32 = 3;
 
@@ -42,7 +30,7 @@ impl Source for Economic {
         if self.output > MOST_OUTPUT || self.mean > MOST_MEAN {
             return Err(found(Refusal::FigureOutOfRange, Self::NUMBER));
         }
-        let kilograms = product(self.output, self.mean);
+        let kilograms = self.output * self.mean;
         Reading::worked_out(kilograms as i64, 5, Self::NUMBER)
     }
 }

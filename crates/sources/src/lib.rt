@@ -2,10 +2,10 @@
 #![tactic(auto)]
 
 pub mod economic;
-pub mod either;
 pub mod estimate;
 pub mod layout;
 pub mod offset;
+mod one_of_two;
 pub mod overseas;
 pub mod physical;
 pub mod reading;

@@ -20,7 +20,8 @@ pub struct OffsetFigures {
 }
 
 impl OffsetFigures {
-    // The number of the layer.
+    // The number of the layer. A generic impl does not know its own constant, and a ghost constant in the trait gets no
+    // proof at a source that borrows.
     pub const NUMBER: u32 = 6;
 
     // The kilograms offset: 570.3 for a megawatt hour, toward zero, and 1,000 for a tonne; nothing where a figure is
@@ -56,9 +57,10 @@ impl<S: Source> Source for Offset<S> {
     ghost within = { λ s. offset-within s.figures (S.meaning s.below) (S.within s.below) };
 
     fn read(&self) -> Result<Reading, Fault> {
-        let Some(offsets) = self.figures.kilograms() else {
-            return Err(found(Refusal::FigureOutOfRange, OffsetFigures::NUMBER));
-        };
+        let offsets = self
+            .figures
+            .kilograms()
+            .ok_or(found(Refusal::FigureOutOfRange, OffsetFigures::NUMBER))?;
         read_without(
             &self.below,
             offsets,

@@ -13,7 +13,8 @@ pub struct OverseasFigures {
 }
 
 impl OverseasFigures {
-    // The number of the layer.
+    // The number of the layer. A generic impl does not know its own constant, and a ghost constant in the trait gets no
+    // proof at a source that borrows.
     pub const NUMBER: u32 = 5;
 }
 

@@ -1,9 +1,7 @@
 // Emissions from an energy bill.
-ghost use Rattle.std.specs.Prelude.{◌≡◌, ◌≤◌, length, pos};
-ghost use Rattle.factors.specs.Factors.{rounded_up};
+ghost use Rattle.std.specs.Prelude.{◌≡◌, ◌≤◌, length};
 ghost use Rattle.sources.specs.Bottoms.{added, physical_meaning};
 ghost use Rattle.sources.specs.Limits.{most_terms, physical_number};
-ghost use Rattle.sources.specs.Readings.{worked_out, on_ok};
 ghost use Rattle.sources.specs.Within.{physical-within};
 
 use crate::reading::{Reading, found};
@@ -41,16 +39,7 @@ fn tenths_of_gram(terms: &[Activity]) -> Result<u64, Fault>
     Ok(sum)
 }
 
-// The terms added and rounded up to a kilogram, once.
-fn bill_reading(terms: &[Activity]) -> Result<Reading, Fault>
-    requires { length terms.now ≤ most_terms }
-    ensures { result ≡ on_ok (λ sum. worked_out (pos (rounded_up sum)) 3 physical_number) (added terms.now) }
-{
-    let kilograms = whole_kilograms(tenths_of_gram(terms)?);
-    Reading::worked_out(kilograms as i64, 3, Physical::NUMBER)
-}
-
-impl<'a> Source for Physical<'a> {
+impl Source for Physical<'_> {
     const NUMBER: u32 = 2;
 
     ghost meaning = { λ s. physical_meaning s.terms.now };
@@ -61,6 +50,8 @@ impl<'a> Source for Physical<'a> {
         if self.terms.is_empty() || self.terms.len() > MOST_TERMS {
             return Err(found(Refusal::TermCount, Self::NUMBER));
         }
-        bill_reading(self.terms)
+        // Rounded up to a kilogram once, over all terms.
+        let kilograms = whole_kilograms(tenths_of_gram(self.terms)?);
+        Reading::worked_out(kilograms as i64, 3, Self::NUMBER)
     }
 }

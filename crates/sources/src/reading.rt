@@ -1,9 +1,11 @@
 // What a source reads.
-ghost use Rattle.std.specs.Prelude.{◌≡◌, IfOk};
+ghost use Rattle.std.specs.Prelude.{◌≡◌, IfOk, Some};
 ghost use Rattle.faults.specs.Refusals.{fault};
+ghost use Rattle.sources.specs.Layout.{reading_text};
 ghost use Rattle.sources.specs.Readings.{worked_out, less, LeftOf};
 
 use faults::{Fault, Refusal};
+use std::fmt;
 
 // The largest reading in size, and the largest figure in kilograms.
 pub const MOST_KILOGRAMS: u64 = 1_000_000_000_000;
@@ -38,6 +40,15 @@ impl Reading {
             kilograms: self.kilograms - part as i64,
             grade: self.grade,
         })
+    }
+}
+
+// Such as `1000 kg, grade 1`.
+impl fmt::Display for Reading {
+    ghost output = { λ r. Some (reading_text r.kilograms r.grade) };
+
+    fn fmt<W: fmt::Write>(&self, f: &mut fmt::Formatter<W>) -> fmt::Result {
+        write!(f, "{} kg, grade {}", self.kilograms, self.grade)
     }
 }
 

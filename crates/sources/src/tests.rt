@@ -1,12 +1,12 @@
 // The sources' numbers, and readings at the edges.
 use crate::economic::Economic;
-use crate::either::Either;
 use crate::estimate::{Estimate, EstimateFigures};
 use crate::offset::{Offset, OffsetFigures};
 use crate::overseas::{OverseasCut, OverseasFigures};
 use crate::physical::Physical;
 use crate::reported::Reported;
 use crate::source::Source;
+use either::Either;
 use factors::Activity;
 
 // A clause cannot cite the constant of a generic source.

@@ -6,7 +6,7 @@ ghost use Rattle.sources.specs.Worked.{WorkedBottoms, WorkedLayers};
 use crate::estimate::{Estimate, EstimateFigures};
 use crate::physical::Physical;
 use crate::reading::Reading;
-use crate::reported::{Reported, VERIFIED};
+use crate::reported::{Mark, Reported};
 use crate::source::Source;
 use factors::Activity;
 use faults::Fault;
@@ -42,7 +42,7 @@ pub fn worked_estimate() -> Result<Reading, Fault>
     };
     let below = Reported {
         kilograms: 1_050,
-        mark: VERIFIED,
+        mark: Mark::Verified.number(),
     };
     Estimate { figures, below }.read()
 }

@@ -4,11 +4,11 @@
 use accounts::answer_text;
 use book::book::Book;
 use book::calls::Call;
+use either::{Either, Left, Right};
 use plain::answers::Answer;
 use rules::figures::Figures;
 use rules::investees::InvesteeFields;
 use rules::national::National;
-use sources::either::Either;
 use sources::estimate::{Estimate, EstimateFigures};
 use sources::reported::Reported;
 use std::io;
@@ -17,7 +17,7 @@ use std::io;
 type Reads = Either<Reported, Estimate<Reported>>;
 
 fn reported(kilograms: u64) -> Reads {
-    Either::One(Reported { kilograms, mark: 1 })
+    Left(Reported { kilograms, mark: 1 })
 }
 
 fn saved(base_kilograms: u64, kilograms: u64) -> Reads {
@@ -27,7 +27,7 @@ fn saved(base_kilograms: u64, kilograms: u64) -> Reads {
         base_kilograms,
     };
     let below = Reported { kilograms, mark: 1 };
-    Either::Other(Estimate { figures, below })
+    Right(Estimate { figures, below })
 }
 
 // An investee of medium size, 200 days in the year.

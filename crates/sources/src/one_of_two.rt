@@ -1,17 +1,11 @@
-// A source that is one of two.
+// A source that is one of two, so that sources of two kinds can stand in one list.
 ghost use Rattle.sources.specs.Layers.{either_meaning};
 ghost use Rattle.sources.specs.Within.{either-within};
 
 use crate::reading::Reading;
 use crate::source::Source;
+use either::Either;
 use faults::Fault;
-
-// One source or another, so that sources of two kinds can stand in one list.
-#[derive(Drop)]
-pub enum Either<A, B> {
-    One(A),
-    Other(B),
-}
 
 impl<A: Source, B: Source> Source for Either<A, B> {
     // It finds no fault by itself.
@@ -23,8 +17,8 @@ impl<A: Source, B: Source> Source for Either<A, B> {
 
     fn read(&self) -> Result<Reading, Fault> {
         match self {
-            Either::One(source) => source.read(),
-            Either::Other(source) => source.read(),
+            Either::Left(source) => source.read(),
+            Either::Right(source) => source.read(),
         }
     }
 }
