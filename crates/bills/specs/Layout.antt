@@ -1,7 +1,8 @@
 -- What is printed for a bill: a line for each item and two for the totals, or one line that says why there are none.
-use Rattle.std.specs.Prelude.{ℕ, ◌+◌, ◌/◌, ◌%◌, cond, List, [], ◌∷◌, ◌++◌, Some, None, Ok, Err, codes, decimal, Option, Result, ◌==◌}
+use Rattle.std.specs.Prelude.{ℕ, ◌+◌, cond, List, [], ◌∷◌, ◌++◌, Ok, Err, codes, decimal, Result, ◌==◌}
 use Rattle.faults.specs.declared.Fault.{Fault}
 use Rattle.faults.specs.Refusals.{number_of}
+use Rattle.grading.specs.Hundredths.{two_decimals}
 use Rattle.lines.specs.declared.fields.LineError.{LineError}
 use Rattle.lines.specs.declared.fields.LineError.TheVariants as line
 use Rattle.operations.specs.declared.items.Item.{Item}
@@ -26,11 +27,6 @@ abbrev pub item_lines : ℕ → List Item → List ℕ
 item_lines n [] = []
 item_lines n (x ∷ xs) = ended (item_line n x) ++ item_lines (n + 1) xs
 
--- hundredths with two decimals; `-` where there are none
-abbrev pub two_decimals : Option ℕ → List ℕ
-two_decimals None = codes "-"
-two_decimals (Some h) = decimal (h / 100) ++ (codes "." ++ (decimal (h / 10 % 10) ++ decimal (h % 10)))
-
 abbrev pub total_line : Totals → List ℕ
 total_line t = codes "total: " ++ (decimal t.kilograms ++ codes " kg")
 
@@ -53,13 +49,7 @@ refusal_line f = codes "refusal " ++ (decimal (number_of f.refusal) ++ cause_at 
 abbrev pub field_name : ℕ → List ℕ
 field_name i = cond (i == 0) (codes "row") (cond (i == 1) (codes "quantity") (codes "grade"))
 
--- what is said of the n-th line
-abbrev pub about_line : ℕ → List ℕ → List ℕ
-about_line n what = codes "line " ++ (decimal n ++ (codes ": " ++ what))
-
-abbrev pub field_message : ℕ → List ℕ → List ℕ
-field_message n name = codes "line " ++ (decimal n ++ (codes ": the " ++ (name ++ codes " is not a number of 1 to 13 digits without leading zeros")))
-
+-- why the n-th line is not an item
 abbrev pub line_message : ℕ → LineError → List ℕ
 line_message n line.TooLong = codes "line " ++ (decimal n ++ codes ": longer than 512 bytes")
 line_message n (line.Field i) = codes "line " ++ (decimal n ++ (codes ": the " ++ (field_name i ++ codes " is not a number of 1 to 13 digits without leading zeros")))

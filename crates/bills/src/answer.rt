@@ -1,9 +1,10 @@
 // A bill answered.
 ghost use Rattle.std.specs.Prelude.{◌≡◌, ◌++◌, IfOk, string_bytes, OnOk};
-ghost use Rattle.bills.specs.Layout.{ended, item_lines, total_line, grade_line, statement_of, worked_text, answer_to};
+ghost use Rattle.bills.specs.Layout.{ended, item_lines, statement_of, worked_text, answer_to};
 
-use crate::layout::{item_line, message, refusal_line, two_decimals};
+use crate::layout::{item_line, refusal_line};
 use crate::reading::read_bill;
+use grading::hundredths::Hundredths;
 use operations::items::{Item, Totals};
 use operations::work::work_out;
 use std::alloc::{AllocError, Global};
@@ -28,31 +29,14 @@ fn item_lines(heap: Global, items: &[Item]) -> Result<String, AllocError>
     Ok(text)
 }
 
-// The lines of what the items come to.
-fn totals_lines(heap: Global, totals: Totals) -> Result<String, AllocError>
-    ensures { IfOk result (λ s. string_bytes s ≡ ended (total_line totals) ++ ended (grade_line totals)) }
-{
-    let kilograms = totals.kilograms;
-    let grade = two_decimals(heap, totals.grade)?;
-    format!(in heap; "total: {kilograms} kg\nmean grade: {grade}\n")
-}
-
 // The lines of items that have been worked out, and of what they come to.
 fn statement(heap: Global, items: &[Item], totals: Totals) -> Result<String, AllocError>
     ensures { IfOk result (λ s. string_bytes s ≡ statement_of items.now totals) }
 {
-    let mut text = item_lines(heap, items)?;
-    let totals = totals_lines(heap, totals)?;
-    text.push_str(totals.as_str())?;
-    Ok(text)
-}
-
-// A line with its line feed.
-fn ended_line(mut line: String) -> Result<String, AllocError>
-    ensures { IfOk result (λ s. string_bytes s ≡ ended (string_bytes line)) }
-{
-    line.push('\n')?;
-    Ok(line)
+    let lines = item_lines(heap, items)?;
+    let kilograms = totals.kilograms;
+    let grade = Hundredths(totals.grade);
+    format!(in heap; "{lines}total: {kilograms} kg\nmean grade: {grade}\n")
 }
 
 // Works out a table, and says what came of it.
@@ -61,7 +45,10 @@ fn worked_text(heap: Global, items: &mut [Item]) -> Result<String, AllocError>
 {
     match work_out(items) {
         Ok(totals) => statement(heap, items, totals),
-        Err(fault) => ended_line(refusal_line(heap, fault)?),
+        Err(fault) => {
+            let line = refusal_line(heap, fault)?;
+            format!(in heap; "{line}\n")
+        }
     }
 }
 
@@ -71,7 +58,7 @@ pub fn answer(heap: Global, bill: &[u8]) -> Result<String, AllocError>
 {
     match read_bill(heap, bill)? {
         Ok(mut items) => worked_text(heap, items.as_mut_slice()),
-        Err(malformed) => ended_line(message(heap, malformed)?),
+        Err(malformed) => format!(in heap; "{malformed}\n"),
     }
 }
 

@@ -1,5 +1,5 @@
 // The items of a bill.
-ghost use Rattle.std.specs.Prelude.{◌≡◌, ◌≤◌, length, IfOk, nat_le};
+ghost use Rattle.std.specs.Prelude.{◌≡◌, ◌≤◌, length, IfOk};
 ghost use Rattle.lines.specs.Fields.{pieces};
 ghost use Rattle.bills.specs.Bills.{item_in, items_of, items_in, Reads};
 
@@ -13,7 +13,7 @@ use std::alloc::{AllocError, Global};
 pub const MOST_BYTES: usize = 65_536;
 
 // Why a text is not a bill.
-#[derive(Clone, Copy)]
+#[derive(Clone, Copy, Debug, PartialEq, Eq)]
 pub enum Malformed {
     TooLong,
     // The line of this number, from 1, does not end with a line feed.
@@ -28,12 +28,6 @@ pub fn read_item(line: &[u8]) -> Result<Item, LineError>
 {
     let [row, quantity, grade] = number_line::<3>(line)?;
     Ok(Item::new(row, quantity, grade))
-}
-
-fn is_short(text: &[u8]) -> bool
-    ensures { result ≡ nat_le (length text.now) 65536 }
-{
-    text.len() <= MOST_BYTES
 }
 
 fn read_lines(heap: Global, text: &[u8]) -> Result<Result<Vec<Item>, Malformed>, AllocError>
@@ -61,8 +55,8 @@ fn read_lines(heap: Global, text: &[u8]) -> Result<Result<Vec<Item>, Malformed>,
 pub fn read_bill(heap: Global, text: &[u8]) -> Result<Result<Vec<Item>, Malformed>, AllocError>
     ensures { IfOk result (λ a. Reads a (items_in text.now)) }
 {
-    if is_short(text) {
-        return read_lines(heap, text);
+    if text.len() > MOST_BYTES {
+        return Ok(Err(Malformed::TooLong));
     }
-    Ok(Err(Malformed::TooLong))
+    read_lines(heap, text)
 }
