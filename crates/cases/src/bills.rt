@@ -1,6 +1,7 @@
 // Cases of sources, of own operations, and of a file.
 use answering::answer::answer;
 use factors::Activity;
+use grading::hundredths::Hundredths;
 use operations::items::Item;
 use operations::work::work_out;
 use pages::page::ROOM;
@@ -57,12 +58,8 @@ pub fn readings(rt: &HostRuntime) -> io::Result<()> {
 pub fn mean_grade(rt: &HostRuntime) -> io::Result<()> {
     let mut items = [Item::new(6, 348, 1), Item::new(6, 1, 2)];
     if let Ok(totals) = work_out(&mut items) {
-        if let Some(hundredths) = totals.grade {
-            let whole = hundredths / 100;
-            let tenths = hundredths / 10 % 10;
-            let rest = hundredths % 10;
-            println!(rt; "mean grade of 199 at 1 and 1 at 2: {whole}.{tenths}{rest}")?;
-        }
+        let grade = Hundredths(totals.grade);
+        println!(rt; "mean grade of 199 at 1 and 1 at 2: {grade}")?;
     }
     Ok(())
 }

@@ -20,3 +20,4 @@ pub mod Worked
 pub mod WorkedRefusals
 pub mod Due
 pub mod WorkedYear
+pub mod Layout

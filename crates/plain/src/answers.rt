@@ -1,5 +1,10 @@
-// What a book answers to its calls.
+// What a book answers to its calls, and how it is printed.
+ghost use Rattle.std.specs.Prelude.{Some};
+ghost use Rattle.plain.specs.Layout.{kilograms_text, total_text, subtotal_text, book_total_text, answer_text};
+
 use faults::Fault;
+use grading::hundredths::Hundredths;
+use std::fmt;
 
 // Kilograms of CO2 equivalent of both measures. Reductions may be below zero.
 #[derive(Clone, Copy, Debug, PartialEq, Eq)]
@@ -50,4 +55,68 @@ pub enum Answer {
     Total(InvesteeTotal),
     Sheet(Kilograms),
     Book(BookTotal),
+}
+
+impl fmt::Display for Kilograms {
+    ghost output = { λ k. Some (kilograms_text k) };
+
+    fn fmt<W: fmt::Write>(&self, f: &mut fmt::Formatter<W>) -> fmt::Result {
+        write!(f, "{} kg, reduction {} kg", self.emissions, self.reductions)
+    }
+}
+
+impl fmt::Display for InvesteeTotal {
+    ghost output = { λ t. Some (total_text t) };
+
+    fn fmt<W: fmt::Write>(&self, f: &mut fmt::Formatter<W>) -> fmt::Result {
+        write!(
+            f,
+            "{}, reason {}, grade {}",
+            self.kilograms, self.reason, self.grade
+        )
+    }
+}
+
+// With the shares of the positions that are covered, in percent.
+impl fmt::Display for Subtotal {
+    ghost output = { λ s. Some (subtotal_text s) };
+
+    fn fmt<W: fmt::Write>(&self, f: &mut fmt::Formatter<W>) -> fmt::Result {
+        let emissions = Hundredths(self.emissions_cover);
+        let reductions = Hundredths(self.reductions_cover);
+        write!(
+            f,
+            "{}, covered {emissions} and {reductions}",
+            self.kilograms
+        )
+    }
+}
+
+// In one line.
+impl fmt::Display for BookTotal {
+    ghost output = { λ b. Some (book_total_text b) };
+
+    fn fmt<W: fmt::Write>(&self, f: &mut fmt::Formatter<W>) -> fmt::Result {
+        let grade = Hundredths(self.mean_grade);
+        write!(
+            f,
+            "projects {}; rest {}; all {}; mean grade {grade}",
+            self.projects, self.rest, self.all
+        )
+    }
+}
+
+impl fmt::Display for Answer {
+    ghost output = { λ a. Some (answer_text a) };
+
+    fn fmt<W: fmt::Write>(&self, f: &mut fmt::Formatter<W>) -> fmt::Result {
+        match self {
+            Answer::Done => write!(f, "done"),
+            Answer::Declined(fault) => write!(f, "{fault}"),
+            Answer::Part(kilograms) => write!(f, "{kilograms}"),
+            Answer::Total(total) => write!(f, "{total}"),
+            Answer::Sheet(kilograms) => write!(f, "{kilograms}"),
+            Answer::Book(total) => write!(f, "{total}"),
+        }
+    }
 }
