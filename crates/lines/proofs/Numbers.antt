@@ -1,5 +1,5 @@
 -- Fields that spell a number.
-use Rattle.std.proofs.Common.{◌≡◌, ℕ, ◌+◌, ◌-◌, ◌*◌, ◌^◌, ◌<◌, ◌≤◌, true, List, length, get_or, take, Some, None, decimal, sym, ap, ◌∙◌, ⊎_elim, arith}
+use Rattle.std.proofs.Common.{◌≡◌, ℕ, ◌+◌, ◌-◌, ◌*◌, ◌^◌, ◌<◌, ◌≤◌, true, List, length, get_or, take, Some, None, Option, decimal, sym, ap, ◌∙◌, ⊎_elim, arith}
 use Rattle.std.specs.Str.Parse.{digits_value}
 use Rattle.std.specs.Int.{IsInRange}
 use Rattle.std.specs.Str.{all_ascii_digits}
@@ -10,7 +10,7 @@ use Rattle.std.proofs.lemmas.Fmt.{decimal-digits_value, digits_decimal, digits_v
 use Rattle.std.proofs.lemmas.Str.{digit_value_digit}
 use Rattle.std.proofs.lemmas.Int.Digits.{digits_more, digits_value_more}
 use Rattle.std.proofs.lemmas.List.{length-take-le, take_all}
-use Rattle.lines.specs.Numerals.{well_formed, value_of, number_of, Spells}
+use Rattle.lines.specs.Numerals.{well_formed, value_of, number_of, Spells, ReadsWhatIsSpelled}
 
 pub digits : IsNumeralModel (λ ds. all_ascii_digits ds ≡ true) (digits_value 10)
 digits = numerals_by_value _ tells_all_ascii_digits
@@ -79,3 +79,6 @@ number-from-spells f n h =
     let lt : n < 2 ^ 64 = omega (arith, h.1) in
     let w = well-formed (decimal n) (decimal_nonempty n lt) (length-decimal-le 13 n (omega arith) h.1 lt) (plain-decimal n lt) in
     ap number_of h.0 ∙ number-true (decimal n) w (digits_decimal digits n lt) ∙ ap Some (digits_value-decimal digits n lt)
+
+pub reads_what_is_spelled : (f : List ℕ) (r : Option ℕ) → r ≡ number_of f → ReadsWhatIsSpelled f r
+reads_what_is_spelled f r is n = (λ e. spells-from-number f n (sym is ∙ e), λ h. is ∙ number-from-spells f n h)

@@ -1,9 +1,8 @@
 -- Reading number fields one after another.
-use Rattle.std.proofs.Common.{◌≡◌, ℕ, suc, ◌+◌, ◌-◌, ◌<◌, ◌≤◌, List, [], ◌∷◌, ◌++◌, length, take, set, Some, None, Ok, Err, Result, sym, refl, ap, ◌∙◌, subst, append_assoc, append-nil, add-zero, arith}
+use Rattle.std.proofs.Common.{◌≡◌, ℕ, suc, ◌+◌, ◌-◌, ◌<◌, ◌≤◌, List, [], ◌∷◌, ◌++◌, length, take, set, Some, None, Option, Ok, Err, Result, sym, refl, ap, ◌∙◌, subst, append_assoc, append-nil, add-zero, arith}
 use native.Mathlib.Nat.{sub-zero}
 use Rattle.std.proofs.lemmas.List.{take_more_set, take_all, length-set}
 use Rattle.lines.specs.Fields.{numbers_of, first}
-use Rattle.lines.specs.Numerals.{number_of}
 
 -- the numbers read so far, before what the rest reads as
 abbrev pub prefixed : List ℕ → Result (List ℕ × List (List ℕ)) ℕ → Result (List ℕ × List (List ℕ)) ℕ
@@ -25,41 +24,39 @@ prefixed-nil (Err p) = refl
 pub read_none : (k p : ℕ) (was : List (List ℕ)) → Read k p 0 was [] was
 read_none k p was = sym (rw (sub-zero k, add-zero p) (prefixed-nil (numbers_of k p was)))
 
-numbers_more : (j p n : ℕ) (f : List ℕ) (fs : List (List ℕ)) → Some n ≡ number_of f → numbers_of (suc j) p (f ∷ fs) ≡ first p (Some n) (numbers_of j (suc p) fs)
-numbers_more j p n f fs is = ap (λ o. first p o (numbers_of j (suc p) fs)) (sym is)
-
-pub read_more : (k p i n : ℕ) (was : List (List ℕ)) (ns : List ℕ) (f : List ℕ) (left next : List (List ℕ)) → i < k → Read k p i was ns left → left ≡ f ∷ next → Some n ≡ number_of f → Read k p (i + 1) was (ns ++ n ∷ []) next
-read_more k p i n was ns f left next lt so is reads =
-    let turns : k - i ≡ suc (k - (i + 1)) = omega arith in
-    let here : suc (p + i) ≡ p + (i + 1) = omega arith in
-    let step : numbers_of (k - i) (p + i) left ≡ first (p + i) (Some n) (numbers_of (k - (i + 1)) (p + (i + 1)) next) =
-    (λ t. numbers_of (turns t) (p + i) (is t)) ∙ numbers_more (k - (i + 1)) (p + i) n f next reads ∙ ap (λ q. first (p + i) (Some n) (numbers_of (k - (i + 1)) q next)) here in
-    so ∙ ap (prefixed ns) step ∙ prefixed-first ns (p + i) n _
-
 pub read_all : (k p i : ℕ) (was : List (List ℕ)) (ns : List ℕ) (left : List (List ℕ)) → k ≤ i → Read k p i was ns left → numbers_of k p was ≡ Ok (ns, left)
 read_all k p i was ns left le so =
     let none : k - i ≡ 0 = omega arith in
     so ∙ (λ t. prefixed ns (numbers_of (none t) (p + i) left)) ∙ ap (λ l. Ok (l, left)) (append-nil ns)
 
--- a field that is missing or wrong
-pub read-missing : (k p i : ℕ) (was : List (List ℕ)) (ns : List ℕ) (left : List (List ℕ)) → i < k → Read k p i was ns left → left ≡ [] → numbers_of k p was ≡ Err (p + i)
-read-missing k p i was ns left lt so is =
-    let turns : k - i ≡ suc (k - (i + 1)) = omega arith in
-    so ∙ (λ t. prefixed ns (numbers_of (turns t) (p + i) (is t)))
+-- what a call for the next number gave, and the fields that it left
+abbrev pub Next : List (List ℕ) → Option ℕ → List (List ℕ) → Type 0
+Next was o left = (k i : ℕ) → numbers_of (suc k) i was ≡ first i o (numbers_of k (suc i) left)
 
-pub read-wrong : (k p i : ℕ) (was : List (List ℕ)) (ns : List ℕ) (f : List ℕ) (left next : List (List ℕ)) → i < k → Read k p i was ns left → left ≡ f ∷ next → None ≡ number_of f → numbers_of k p was ≡ Err (p + i)
-read-wrong k p i was ns f left next lt so is reads =
+next-first : (k p i : ℕ) (was : List (List ℕ)) (ns : List ℕ) (o : Option ℕ) (left next : List (List ℕ)) → i < k → Read k p i was ns left → Next left o next → numbers_of k p was ≡ prefixed ns (first (p + i) o (numbers_of (k - (i + 1)) (suc (p + i)) next))
+next-first k p i was ns o left next lt so reads =
     let turns : k - i ≡ suc (k - (i + 1)) = omega arith in
-    so ∙ (λ t. prefixed ns (numbers_of (turns t) (p + i) (is t))) ∙ ap (λ o. prefixed ns (first (p + i) o (numbers_of (k - (i + 1)) (suc (p + i)) next))) (sym reads)
+    so ∙ ap (λ j. prefixed ns (numbers_of j (p + i) left)) turns ∙ ap (prefixed ns) (reads (k - (i + 1)) (p + i))
+
+read_more : (k p i n : ℕ) (was : List (List ℕ)) (ns : List ℕ) (left next : List (List ℕ)) → i < k → Read k p i was ns left → Next left (Some n) next → Read k p (i + 1) was (ns ++ n ∷ []) next
+read_more k p i n was ns left next lt so reads =
+    let here : suc (p + i) ≡ p + (i + 1) = omega arith in
+    next-first k p i was ns (Some n) left next lt so reads
+    ∙ ap (λ q. prefixed ns (first (p + i) (Some n) (numbers_of (k - (i + 1)) q next))) here ∙ prefixed-first ns (p + i) n _
+
+-- a field that is wrong or missing
+pub wrong : (k p i : ℕ) (was : List (List ℕ)) (ns : List ℕ) (o : Option ℕ) (left next : List (List ℕ)) → i < k → Read k p i was ns left → Next left o next → o ≡ None → numbers_of k p was ≡ Err (p + i)
+wrong k p i was ns o left next lt so reads none =
+    next-first k p i was ns None left next lt so (subst (λ o. Next left o next) none reads)
 
 -- the same, where the numbers are the front of an array of k
 abbrev pub Sofar : (k p i : ℕ) (was : List (List ℕ)) (out : List ℕ) (left : List (List ℕ)) → Type 0
 Sofar k p i was out left = (length out ≡ k) × Read k p i was (take i out) left
 
-pub more : (k p i n : ℕ) (was : List (List ℕ)) (out : List ℕ) (f : List ℕ) (left next : List (List ℕ)) → i < k → Sofar k p i was out left → left ≡ f ∷ next → Some n ≡ number_of f → Sofar k p (i + 1) was (set out i n) next
-more k p i n was out f left next lt so is reads =
+pub more : (k p i n : ℕ) (was : List (List ℕ)) (out : List ℕ) (o : Option ℕ) (left next : List (List ℕ)) → i < k → Sofar k p i was out left → Next left o next → o ≡ Some n → Sofar k p (i + 1) was (set out i n) next
+more k p i n was out o left next lt so reads some =
     let grown : take (i + 1) (set out i n) ≡ take i out ++ n ∷ [] = take_more_set out i n (omega (arith, so.0)) in
-    (simp length-set so.0, subst (λ ns. Read k p (i + 1) was ns next) (sym grown) (read_more k p i n was (take i out) f left next lt so.1 is reads))
+    (simp length-set so.0, subst (λ ns. Read k p (i + 1) was ns next) (sym grown) (read_more k p i n was (take i out) left next lt so.1 (subst (λ o. Next left o next) some reads)))
 
 pub all : (k p i : ℕ) (was : List (List ℕ)) (out : List ℕ) (left : List (List ℕ)) → k ≤ i → Sofar k p i was out left → numbers_of k p was ≡ Ok (out, left)
 all k p i was out left le so =

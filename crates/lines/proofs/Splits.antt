@@ -1,43 +1,34 @@
--- Where a piece ends.
-use Rattle.std.proofs.Common.{◌≡◌, ℕ, suc, ◌+◌, ◌-◌, ◌<◌, ◌≤◌, true, false, cond, eqb, List, [], ◌∷◌, length, get_or, take, drop, sym, refl, ap, ◌∙◌, subst, add-one, arith}
-use native.Mathlib.Nat.{sub-zero}
-use Rattle.std.proofs.lemmas.List.{at_drop_more, at_drop_all, take_rest}
-use Rattle.std.proofs.lemmas.Bool.{eq-eqb, ne_eqb}
-use Rattle.lines.specs.Fields.{pieces, onto, before}
+-- Bytes cut at the first separator.
+use Rattle.std.proofs.Common.{◌≡◌, ℕ, suc, ◌+◌, ◌-◌, ◌<◌, ◌≤◌, true, false, cond, not, eqb, List, [], ◌∷◌, length, take, drop, Some, None, refl, ap, sym, subst, add-one, arith}
+use Rattle.std.proofs.lemmas.Grind.{common_steps}
+use Rattle.std.proofs.lemmas.List.{take_rest}
+use Rattle.std.specs.List.{position, position_or_len}
+use Rattle.lines.specs.Fields.{pieces, onto}
 
-pub before_more : (sep : ℕ) (bs : List ℕ) (i : ℕ) → i < length bs → (get_or bs i 0 ≡ sep → ⊥) → before sep (drop i bs) ≡ suc (before sep (drop (i + 1) bs))
-before_more sep bs i lt other = at_drop_more (before sep) bs i 0 lt ∙ rw (ne_eqb (get_or bs i 0) sep other)
+abbrev before : ℕ → List ℕ → ℕ
+before sep bs = position_or_len (λ b. eqb b sep) bs
 
-pub before-stop : (sep : ℕ) (bs : List ℕ) (i : ℕ) → i < length bs → get_or bs i 0 ≡ sep → before sep (drop i bs) ≡ 0
-before-stop sep bs i lt same = at_drop_more (before sep) bs i 0 lt ∙ rw (eq-eqb (get_or bs i 0) sep same)
-
-pub before-end : (sep : ℕ) (bs : List ℕ) (i : ℕ) → length bs ≤ i → before sep (drop i bs) ≡ 0
-before-end sep bs i le = at_drop_all (before sep) bs i le
-
-pub before-le : (sep : ℕ) (bs : List ℕ) → before sep bs ≤ length bs
-before-le sep [] = omega arith
-before-le sep (b ∷ bs) =
-    elim (eqb b sep) as (λ t. cond t 0 (suc (before sep bs)) ≤ suc (length bs)) [ true ↦ omega arith | false ↦ omega (arith, before-le sep bs) ]
-
-pub pieces-cut : (sep : ℕ) (bs : List ℕ) → before sep bs < length bs → pieces sep bs ≡ take (before sep bs) bs ∷ pieces sep (drop (suc (before sep bs)) bs)
+pieces-cut : (sep : ℕ) (bs : List ℕ) → before sep bs < length bs → pieces sep bs ≡ take (before sep bs) bs ∷ pieces sep (drop (suc (before sep bs)) bs)
 pieces-cut sep [] h = absurd (omega arith)
 pieces-cut sep (b ∷ bs) h =
-    (elim (eqb b sep) as (λ t. cond t 0 (suc (before sep bs)) < suc (length bs) → cond t ([] ∷ pieces sep bs) (onto b (pieces sep bs)) ≡ take (cond t 0 (suc (before sep bs))) (b ∷ bs) ∷ pieces sep (drop (suc (cond t 0 (suc (before sep bs)))) (b ∷ bs)))
-    [ true ↦ λ _. refl | false ↦ λ k. ap (onto b) (pieces-cut sep bs (omega arith)) ]) h
+    (elim (eqb b sep) as (λ t. cond (not t) (1 + before sep bs) 0 < suc (length bs) → cond t ([] ∷ pieces sep bs) (onto b (pieces sep bs)) ≡ take (cond (not t) (1 + before sep bs) 0) (b ∷ bs) ∷ pieces sep (drop (suc (cond (not t) (1 + before sep bs) 0)) (b ∷ bs)))
+    [ true ↦ λ _. refl | false ↦ λ k. let next : suc (before sep bs) ≡ 1 + before sep bs = omega arith in subst (λ n. onto b (pieces sep bs) ≡ take n (b ∷ bs) ∷ pieces sep (drop (suc n) (b ∷ bs))) next (ap (onto b) (pieces-cut sep bs (omega arith))) ]) h
 
-pub pieces-last : (sep : ℕ) (bs : List ℕ) → length bs ≤ before sep bs → pieces sep bs ≡ bs ∷ []
+pieces-last : (sep : ℕ) (bs : List ℕ) → length bs ≤ before sep bs → pieces sep bs ≡ bs ∷ []
 pieces-last sep [] h = refl
 pieces-last sep (b ∷ bs) h =
-    (elim (eqb b sep) as (λ t. suc (length bs) ≤ cond t 0 (suc (before sep bs)) → cond t ([] ∷ pieces sep bs) (onto b (pieces sep bs)) ≡ (b ∷ bs) ∷ [])
+    (elim (eqb b sep) as (λ t. suc (length bs) ≤ cond (not t) (1 + before sep bs) 0 → cond t ([] ∷ pieces sep bs) (onto b (pieces sep bs)) ≡ (b ∷ bs) ∷ [])
     [ true ↦ λ k. absurd (omega arith) | false ↦ λ k. ap (onto b) (pieces-last sep bs (omega arith)) ]) h
 
--- the first piece, as `next` cuts it off
-pub next-cut : (sep : ℕ) (bs : List ℕ) (e : ℕ) → e ≡ before sep bs → e < length bs → pieces sep bs ≡ take (e - 0) bs ∷ pieces sep (take (length bs - (e + 1)) (drop (e + 1) bs))
-next-cut sep bs e is lt =
-    let cut = pieces-cut sep bs (omega arith) in
+-- the first piece, and the bytes after its separator
+pub cut-at : (sep : ℕ) (bs : List ℕ) (e : ℕ) → Some e ≡ position (λ b. eqb b sep) bs → pieces sep bs ≡ take e bs ∷ pieces sep (take (length bs - (e + 1)) (drop (e + 1) bs))
+cut-at sep bs e is =
+    let at : (e ≡ before sep bs) × (e < length bs) = grind (arith, common_steps) in
     let P : ℕ → Type 0 = λ n. pieces sep bs ≡ take n bs ∷ pieces sep (drop (suc n) bs) in
-    let at : P e = subst P (sym is) cut in
-    rw (take_rest bs (e + 1), sub-zero e, add-one e) at
+    let here : P e = subst P (sym at.0) (pieces-cut sep bs (omega (arith, at.0, at.1))) in
+    rw (take_rest bs (e + 1), add-one e) here
 
-pub next_last : (sep : ℕ) (bs : List ℕ) (e : ℕ) → e ≡ before sep bs → length bs ≤ e → pieces sep bs ≡ bs ∷ []
-next_last sep bs e is le = pieces-last sep bs (omega arith)
+pub cut-nowhere : (sep : ℕ) (bs : List ℕ) → None ≡ position (λ b. eqb b sep) bs → pieces sep bs ≡ bs ∷ []
+cut-nowhere sep bs is =
+    let none : length bs ≤ before sep bs = grind (arith, common_steps) in
+    pieces-last sep bs none

@@ -1,5 +1,5 @@
 -- Bytes cut into pieces, and the numbers that pieces spell.
-use Rattle.std.specs.Prelude.{◌≡◌, ℕ, zero, suc, cond, List, [], ◌∷◌, length, Some, None, Ok, Err, Option, Result, ◌==◌, nat_lt}
+use Rattle.std.specs.Prelude.{ℕ, zero, suc, cond, List, [], ◌∷◌, length, Some, None, Ok, Err, Option, Result, ◌==◌, nat_lt}
 use Rattle.std.specs.Borrow.{Bor}
 use Rattle.lines.specs.declared.fields.LineError.{LineError}
 use Rattle.lines.specs.declared.fields.LineError.TheVariants.{TooLong, Field, Surplus}
@@ -15,20 +15,10 @@ abbrev pub pieces : ℕ → List ℕ → List (List ℕ)
 pieces separator [] = [] ∷ []
 pieces separator (b ∷ bs) = cond (b == separator) ([] ∷ pieces separator bs) (onto b (pieces separator bs))
 
--- how many bytes stand before the first separator
-abbrev pub before : ℕ → List ℕ → ℕ
-before separator [] = 0
-before separator (b ∷ bs) = cond (b == separator) 0 (suc (before separator bs))
-
 -- the pieces that are still to read; none once the last was read
 abbrev pub pieces_left : ℕ → Option (Bor (List ℕ)) → List (List ℕ)
 pieces_left separator None = []
 pieces_left separator (Some r) = pieces separator r.now
-
--- what one call of `next` does: it gives the first piece and leaves those after it
-abbrev pub Next : List (List ℕ) → Option (List ℕ) → List (List ℕ) → Type 0
-Next was None left = (was ≡ []) × (left ≡ [])
-Next was (Some p) left = was ≡ p ∷ left
 
 -- a number in front of what the fields after it read as; i is where a field stands that is no number
 abbrev pub first : ℕ → Option ℕ → Result (List ℕ × List (List ℕ)) ℕ → Result (List ℕ × List (List ℕ)) ℕ
@@ -42,11 +32,6 @@ numbers_of zero i fields = Ok ([], fields)
 numbers_of (suc k) i [] = Err i
 numbers_of (suc k) i (f ∷ fields) = first i (number_of f) (numbers_of k (suc i) fields)
 
--- what a reader of some numbers answers, with the fields that it leaves
-abbrev pub leaving : Result (List ℕ) ℕ → List (List ℕ) → Result (List ℕ × List (List ℕ)) ℕ
-leaving (Ok ns) fields = Ok (ns, fields)
-leaving (Err i) fields = Err i
-
 -- an index as the place of a field
 abbrev pub at_field : Result (List ℕ × List (List ℕ)) ℕ → Result (List ℕ × List (List ℕ)) LineError
 at_field (Ok r) = Ok r
@@ -56,6 +41,7 @@ at_field (Err i) = Err (Field i)
 abbrev pub fields_of : ℕ → List (List ℕ) → Result (List ℕ × List (List ℕ)) LineError
 fields_of k fields = at_field (numbers_of k 0 fields)
 
+-- what a reader of some numbers answers, with the fields that it leaves
 abbrev pub leaving_fields : Result (List ℕ) LineError → List (List ℕ) → Result (List ℕ × List (List ℕ)) LineError
 leaving_fields (Ok ns) fields = Ok (ns, fields)
 leaving_fields (Err e) fields = Err e

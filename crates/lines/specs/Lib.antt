@@ -1,4 +1,5 @@
 pub mod Fields
 pub mod Numerals
+pub mod Pieces
 pub mod Render
 pub mod Writing

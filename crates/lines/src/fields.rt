@@ -1,6 +1,7 @@
 // Fields read one after another.
-ghost use Rattle.std.specs.Prelude.{◌≡◌};
-ghost use Rattle.lines.specs.Fields.{pieces_left, numbers_of, fields_of, leaving, leaving_fields};
+ghost use Rattle.std.specs.Prelude.{◌≡◌, ℕ, suc};
+ghost use Rattle.lines.specs.Fields.{numbers_of, first, fields_of, leaving_fields};
+ghost use Rattle.lines.specs.Pieces.{left_in};
 
 use crate::numerals::number;
 use crate::pieces::Pieces;
@@ -15,28 +16,20 @@ pub enum LineError {
     Surplus,
 }
 
-fn read_numbers<const K: usize>(fields: &mut Pieces<'_>) -> Result<[u64; K], usize>
-    ensures { numbers_of K 0 (pieces_left fields.old.separator fields.old.rest) ≡ leaving result (pieces_left fields.new.separator fields.new.rest) }
+// The next field as a number; nothing if it is wrong or missing.
+fn next_number(fields: &mut Pieces<'_>) -> Option<u64>
+    ensures { (k i : ℕ) → numbers_of (suc k) i (left_in fields.old) ≡ first i result (numbers_of k (suc i) (left_in fields.new)) }
 {
-    let mut out = [0; K];
-    for i in 0..K {
-        let Some(field) = fields.next() else {
-            return Err(i);
-        };
-        let Some(n) = number(field) else {
-            return Err(i);
-        };
-        out[i] = n;
-    }
-    Ok(out)
+    number(fields.next()?)
 }
 
 // The next K fields as numbers, or the first of them that is wrong or missing.
 pub fn numbers<const K: usize>(fields: &mut Pieces<'_>) -> Result<[u64; K], LineError>
-    ensures { fields_of K (pieces_left fields.old.separator fields.old.rest) ≡ leaving_fields result (pieces_left fields.new.separator fields.new.rest) }
+    ensures { fields_of K (left_in fields.old) ≡ leaving_fields result (left_in fields.new) }
 {
-    match read_numbers::<K>(fields) {
-        Ok(ns) => Ok(ns),
-        Err(i) => Err(LineError::Field(i)),
+    let mut out = [0; K];
+    for (i, n) in out.iter_mut().enumerate() {
+        *n = next_number(fields).ok_or(LineError::Field(i))?;
     }
+    Ok(out)
 }

@@ -9,8 +9,10 @@ use crate::pieces::Pieces;
 // The most bytes of a line, without its line feed.
 pub const MOST_BYTES: usize = 511;
 
-fn read_line<const K: usize>(line: &[u8]) -> Result<[u64; K], LineError>
-    ensures { result ≡ line_of K line.now }
+// The K numbers of a line, which is given without its line feed.
+pub fn number_line<const K: usize>(line: &[u8]) -> Result<[u64; K], LineError>
+    ensures value { result ≡ line_of K line.now }
+    ensures accepts { 0 < K → AcceptsWhatIsPrinted K line.now result }
 {
     if line.len() > MOST_BYTES {
         return Err(LineError::TooLong);
@@ -21,20 +23,4 @@ fn read_line<const K: usize>(line: &[u8]) -> Result<[u64; K], LineError>
         return Err(LineError::Surplus);
     }
     Ok(ns)
-}
-
-// The same, with what it says of the bytes.
-fn accepted_line<const K: usize>(line: &[u8]) -> Result<[u64; K], LineError>
-    ensures value { result ≡ line_of K line.now }
-    ensures accepts { 0 < K → AcceptsWhatIsPrinted K line.now result }
-{
-    read_line::<K>(line)
-}
-
-// The K numbers of a line, which is given without its line feed.
-pub fn number_line<const K: usize>(line: &[u8]) -> Result<[u64; K], LineError>
-    ensures value { result ≡ line_of K line.now }
-    ensures accepts { 0 < K → AcceptsWhatIsPrinted K line.now result }
-{
-    accepted_line::<K>(line)
 }

@@ -22,7 +22,7 @@ fn value(field: &[u8]) -> Option<u64>
 {
     let mut n: u64 = 0;
     for b in field {
-        if *b < b'0' || *b > b'9' {
+        if !b.is_ascii_digit() {
             return None;
         }
         n = n * 10 + u64::from(*b - b'0');
@@ -30,27 +30,13 @@ fn value(field: &[u8]) -> Option<u64>
     Some(n)
 }
 
-fn read_number(field: &[u8]) -> Option<u64>
-    ensures { result ≡ number_of field.now }
-{
-    if !well_formed(field) {
-        return None;
-    }
-    value(field)
-}
-
-// The same, with what it says of the field.
-fn spelled_number(field: &[u8]) -> Option<u64>
-    ensures value { result ≡ number_of field.now }
-    ensures spells { ReadsWhatIsSpelled field.now result }
-{
-    read_number(field)
-}
-
 // The number that a field spells: 1 to 13 digits, without a leading zero.
 pub fn number(field: &[u8]) -> Option<u64>
     ensures value { result ≡ number_of field.now }
     ensures spells { ReadsWhatIsSpelled field.now result }
 {
-    spelled_number(field)
+    if !well_formed(field) {
+        return None;
+    }
+    value(field)
 }

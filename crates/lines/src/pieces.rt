@@ -1,31 +1,23 @@
 // Bytes cut at a separator.
-ghost use Rattle.std.specs.Prelude.{◌≡◌, ◌^◌, ◌<◌, ◌≤◌, ◌∷◌, length};
-ghost use Rattle.std.specs.Option.{option_map};
-ghost use Rattle.lines.specs.Fields.{before, pieces, pieces_left, Next};
+ghost use Rattle.std.specs.Prelude.{◌≡◌, ◌==◌, ◌∷◌};
+ghost use Rattle.std.specs.List.{position};
+ghost use Rattle.lines.specs.Fields.{pieces, pieces_left};
 
-// Where the first separator stands, or the length.
-fn find(bytes: &[u8], separator: u8) -> usize
-    ensures value { result ≡ before separator bytes.now }
-    ensures within { result ≤ length bytes.now }
-    ensures bound { length bytes.now < 2 ^ 64 }
+// Where the first separator stands.
+fn find(bytes: &[u8], separator: u8) -> Option<usize>
+    ensures { result ≡ position (λ b. b == separator) bytes.now }
 {
-    let mut i = 0;
-    while i < bytes.len() && bytes[i] != separator {
-        i += 1;
-    }
-    i
+    bytes.iter().position(|b| *b == separator)
 }
 
 // The first piece, and what stands after its separator, if it has one.
-fn cut<'a>(bytes: &'a [u8], separator: u8) -> (&'a [u8], Option<&'a [u8]>)
+fn cut(bytes: &[u8], separator: u8) -> (&[u8], Option<&[u8]>)
     ensures { pieces separator bytes.now ≡ result.0.now ∷ pieces_left separator result.1 }
 {
-    let len = bytes.len();
-    let end = find(bytes, separator);
-    if end < len {
-        return (&bytes[0..end], Some(&bytes[end + 1..len]));
+    match find(bytes, separator) {
+        Some(end) => (&bytes[..end], Some(&bytes[end + 1..])),
+        None => (bytes, None),
     }
-    (bytes, None)
 }
 
 // The pieces of some bytes between separators, one after another; there is always at least one.
@@ -45,17 +37,22 @@ impl<'a> Pieces<'a> {
             separator,
         }
     }
+}
+
+impl<'a> Iterator for Pieces<'a> {
+    ghost use Rattle.std.specs.Iterator.{item_count};
+    ghost use Rattle.lines.specs.Pieces.{left_in, GivesFirst};
+
+    type Item = &'a [u8];
+
+    ghost next_gives = { GivesFirst };
+
+    ghost remaining = { item_count left_in };
 
     // The next piece; nothing after the last.
-    pub fn next(&mut self) -> Option<&'a [u8]>
-        ensures step { Next (pieces_left self.old.separator self.old.rest) (option_map (λ x. x.now) result) (pieces_left self.new.separator self.new.rest) }
-        ensures separator { self.new.separator ≡ self.old.separator }
-    {
-        let Some(rest) = self.rest else {
-            return None;
-        };
-        let (piece, left) = cut(rest, self.separator);
-        self.rest = left;
+    fn next(&mut self) -> Option<&'a [u8]> {
+        let (piece, after) = cut(self.rest?, self.separator);
+        self.rest = after;
         Some(piece)
     }
 }

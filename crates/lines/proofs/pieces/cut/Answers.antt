@@ -1,8 +1,8 @@
-use Rattle.lines.proofs.Splits.{next-cut, next_last}
+use Rattle.lines.proofs.Splits.{cut-at, cut-nowhere}
 use Rattle.lines.proofs.pieces.cut.Goals as goal
 
-pub returns-then-end-len : goal.returns-then-end-len
-returns-then-end-len c = next-cut c.args.separator c.args.bytes.now c.find-end.result c.find-end.ensures.value c.if-end-len.true
+pub returns-in-Some : goal.returns-in-Some
+returns-in-Some c = cut-at c.args.separator c.args.bytes.now c.in-Some.end (c.in-Some.ensures)
 
-pub returns : goal.returns
-returns c = next_last c.args.separator c.args.bytes.now c.find-end.result c.find-end.ensures.value c.if-end-len.false
+pub returns-in-None : goal.returns-in-None
+returns-in-None c = cut-nowhere c.args.separator c.args.bytes.now c.in-None.ensures
