@@ -1,5 +1,6 @@
 -- Entries entered one after another are tried in order.
-use Rattle.std.proofs.Common.{◌≡◌, ℕ, suc, ◌+◌, ◌^◌, ◌<◌, List, [], ◌∷◌, map, length, Some, None, Ok, Err, Option, sym, refl, ap, ◌∙◌, add-one, arith}
+use Rattle.std.proofs.Common.{◌≡◌, ℕ, suc, ◌+◌, List, [], ◌∷◌, length, Some, None, Ok, Err, Option, Result, sym, refl, ap, ◌∙◌, add-one, arith}
+use Rattle.std.specs.Result.{result_err}
 use Rattle.faults.specs.declared.Fault.{Fault}
 use Rattle.rules.specs.Tables.{Tables}
 use Rattle.entries.specs.Stops.{stop_at}
@@ -24,56 +25,52 @@ unless-declined : (d : Option Fault) (f : Fault) (a : Answer) → told done (Err
 unless-declined None f a e is = let z : ◌≡◌ {A = ℕ} 0 1 = cc in absurd (omega arith)
 unless-declined (Some g) f a e is = let same : g ≡ f = cc in ap Some same
 
-pub done-accepted : (t : Tables) (p : PlainBook) (c : Step) (u : Unit {0}) → gives t p c ≡ Done → told done (Ok u) ≡ answer t p c → declined t p c ≡ None
-done-accepted t p c u is e = unless-done (declined t p c) u (gives t p c) e is
-
-pub fault-declined : (t : Tables) (p : PlainBook) (c : Step) (f : Fault) → gives t p c ≡ Done → told done (Err f) ≡ answer t p c → declined t p c ≡ Some f
-fault-declined t p c f is e = unless-declined (declined t p c) f (gives t p c) e is
+-- the fault that a call tells is why it is declined
+pub told-declined : (t : Tables) (p : PlainBook) (c : Step) (r : Result (Unit {0}) Fault) → gives t p c ≡ Done → told done r ≡ answer t p c → result_err r ≡ declined t p c
+told-declined t p c (Ok u) is e = sym (unless-done (declined t p c) u (gives t p c) e is)
+told-declined t p c (Err f) is e = sym (unless-declined (declined t p c) f (gives t p c) e is)
 
 -- ---- entries, one after another
 
-module _ {X : Type 0} (call : X → Step) where
-  -- the entries that are left, from this line on this book, come to what all come to
-  pub record Entering (t₀ : Tables) (first : ℕ) (p₀ : PlainBook) (all : List X) (t : Tables) (line : ℕ) (p : PlainBook) (left : List X) : Type 0 where
-    pub same : tried t₀ first p₀ (map call all) ≡ tried t line p (map call left)
-    pub small : line + length left < 2 ^ 32
-    pub lines : line + length left ≡ first + length all
+-- the entries that are left, from this line on this book, come to what all come to
+pub record Entering (t₀ : Tables) (first : ℕ) (p₀ : PlainBook) (all : List Step) (t : Tables) (line : ℕ) (p : PlainBook) (left : List Step) : Type 0 where
+  pub same : tried t₀ first p₀ all ≡ tried t line p left
+  pub lines : line + length left ≡ first + length all
 
-  pub entering-none : (t : Tables) (first : ℕ) (p : PlainBook) (all : List X) → first + length all < 2 ^ 32 → Entering t first p all t first p all
-  entering-none t first p all h = record { same = refl; small = h; lines = refl }
+pub entering-none : (t : Tables) (first : ℕ) (p : PlainBook) (all left : List Step) → left ≡ all → Entering t first p all t first p left
+entering-none t first p all left is = record { same = ap (tried t first p) (sym is); lines = ap (λ cs. first + length cs) is }
 
-  next-tried : (t : Tables) (line : ℕ) (p : PlainBook) (x : X) (xs : List X) → tried t line p (map call (x ∷ xs)) ≡ unless (declined t p (call x)) (tried t (suc line) (after t p (call x)) (map call xs)) (λ f. outcome p (Some (stop_at line f)))
+next-tried : (t : Tables) (line : ℕ) (p : PlainBook) (c : Step) (cs : List Step) → tried t line p (c ∷ cs) ≡ unless (declined t p c) (tried t (suc line) (after t p c) cs) (λ f. outcome p (Some (stop_at line f)))
+unfolding tried
+next-tried t line p c cs = refl
+
+accepted-tried : (t : Tables) (line : ℕ) (p : PlainBook) (c : Step) (cs : List Step) → declined t p c ≡ None → tried t line p (c ∷ cs) ≡ tried t (suc line) (after t p c) cs
+accepted-tried t line p c cs ok =
+    next-tried t line p c cs ∙ ap (λ d. unless d (tried t (suc line) (after t p c) cs) (λ f. outcome p (Some (stop_at line f)))) ok
+
+declined-tried : (t : Tables) (line : ℕ) (p : PlainBook) (c : Step) (cs : List Step) (f : Fault) → declined t p c ≡ Some f → tried t line p (c ∷ cs) ≡ outcome p (Some (stop_at line f))
+declined-tried t line p c cs f refusal =
+    next-tried t line p c cs ∙ ap (λ d. unless d (tried t (suc line) (after t p c) cs) (λ f. outcome p (Some (stop_at line f)))) refusal
+
+-- a declined call changes nothing
+declined-stays : (t : Tables) (p : PlainBook) (c : Step) (f : Fault) → declined t p c ≡ Some f → after t p c ≡ p
+declined-stays t p c f refusal = ap (λ d. unless d (changed p c) (λ f. p)) refusal
+
+module _ (t₀ : Tables) (first : ℕ) (p₀ : PlainBook) (all : List Step) (t : Tables) (line : ℕ) (p : PlainBook) (left : List Step) (h : Entering t₀ first p₀ all t line p left) where
+  pub entering-more : (c : Step) (cs : List Step) (t' : Tables) (p' : PlainBook) → left ≡ c ∷ cs → None ≡ declined t p c → p' ≡ after t p c → t' ≡ t → Entering t₀ first p₀ all t' (line + 1) p' cs
+  entering-more c cs t' p' is ok goes rule =
+      record {
+        same = h.same ∙ ap (tried t line p) is ∙ accepted-tried t line p c cs (sym ok) ∙ (λ i. tried (sym rule i) (sym (add-one line) i) (sym goes i) cs);
+        lines = let long : length left ≡ suc (length cs) = ap length is in omega (arith, h.lines);
+      }
+
+  pub entering-stopped : (c : Step) (cs : List Step) (p' : PlainBook) (f : Fault) → left ≡ c ∷ cs → Some f ≡ declined t p c → p' ≡ after t p c → outcome p' (Some (stop_at line f)) ≡ tried t₀ first p₀ all
+  entering-stopped c cs p' f is refusal goes =
+      ap (λ q. outcome q (Some (stop_at line f))) (goes ∙ declined-stays t p c f (sym refusal)) ∙ sym (h.same ∙ ap (tried t line p) is ∙ declined-tried t line p c cs f (sym refusal))
+
+  pub entering-all : left ≡ [] → outcome p None ≡ tried t₀ first p₀ all
   unfolding tried
-  next-tried t line p x xs = refl
+  entering-all is = sym (h.same ∙ ap (tried t line p) is)
 
-  accepted-tried : (t : Tables) (line : ℕ) (p : PlainBook) (x : X) (xs : List X) → declined t p (call x) ≡ None → tried t line p (map call (x ∷ xs)) ≡ tried t (suc line) (after t p (call x)) (map call xs)
-  accepted-tried t line p x xs ok =
-      next-tried t line p x xs ∙ ap (λ d. unless d (tried t (suc line) (after t p (call x)) (map call xs)) (λ f. outcome p (Some (stop_at line f)))) ok
-
-  declined-tried : (t : Tables) (line : ℕ) (p : PlainBook) (x : X) (xs : List X) (f : Fault) → declined t p (call x) ≡ Some f → tried t line p (map call (x ∷ xs)) ≡ outcome p (Some (stop_at line f))
-  declined-tried t line p x xs f refusal =
-      next-tried t line p x xs ∙ ap (λ d. unless d (tried t (suc line) (after t p (call x)) (map call xs)) (λ f. outcome p (Some (stop_at line f)))) refusal
-
-  -- a declined call changes nothing
-  declined-stays : (t : Tables) (p : PlainBook) (c : Step) (f : Fault) → declined t p c ≡ Some f → after t p c ≡ p
-  declined-stays t p c f refusal = ap (λ d. unless d (changed p c) (λ f. p)) refusal
-
-  module _ (t₀ : Tables) (first : ℕ) (p₀ : PlainBook) (all : List X) (t : Tables) (line : ℕ) (p : PlainBook) (left : List X) (h : Entering t₀ first p₀ all t line p left) where
-    pub entering-more : (x : X) (xs : List X) (t' : Tables) (p' : PlainBook) → left ≡ x ∷ xs → declined t p (call x) ≡ None → p' ≡ after t p (call x) → t' ≡ t → Entering t₀ first p₀ all t' (line + 1) p' xs
-    entering-more x xs t' p' is ok goes rule =
-        record {
-          same = h.same ∙ ap (λ l. tried t line p (map call l)) is ∙ accepted-tried t line p x xs ok ∙ (λ i. tried (sym rule i) (sym (add-one line) i) (sym goes i) (map call xs));
-          small = let long : length left ≡ suc (length xs) = ap length is in omega (arith, h.small);
-          lines = let long : length left ≡ suc (length xs) = ap length is in omega (arith, h.lines);
-        }
-
-    pub entering-stopped : (x : X) (xs : List X) (p' : PlainBook) (f : Fault) → left ≡ x ∷ xs → declined t p (call x) ≡ Some f → p' ≡ after t p (call x) → outcome p' (Some (stop_at line f)) ≡ tried t₀ first p₀ (map call all)
-    entering-stopped x xs p' f is refusal goes =
-        ap (λ q. outcome q (Some (stop_at line f))) (goes ∙ declined-stays t p (call x) f refusal) ∙ sym (h.same ∙ ap (λ l. tried t line p (map call l)) is ∙ declined-tried t line p x xs f refusal)
-
-    pub entering-all : left ≡ [] → outcome p None ≡ tried t₀ first p₀ (map call all)
-    unfolding tried
-    entering-all is = sym (h.same ∙ ap (λ l. tried t line p (map call l)) is)
-
-    pub entering-lines : left ≡ [] → line ≡ first + length all
-    entering-lines is = let none : length left ≡ 0 = ap length is in omega (arith, h.lines)
+  pub entering-lines : left ≡ [] → line ≡ first + length all
+  entering-lines is = let none : length left ≡ 0 = ap length is in omega (arith, h.lines)

@@ -1,8 +1,6 @@
 // Loading a file.
 ghost use Rattle.std.specs.Prelude.{◌≡◌, ◌+◌, ◌^◌, ◌<◌, length, IfOk};
 ghost use Rattle.portfolio.specs.Cursors.{plain_portfolio};
-ghost use Rattle.portfolio.specs.Layout.{layout_of};
-ghost use Rattle.portfolio.specs.Text.{AcceptsTexts};
 ghost use Rattle.loading.specs.Loading.{entered, loading_of, plain_loaded, seen_loaded, LoadsPortfolios};
 ghost use Rattle.loading.specs.Trying.{first_entry_line};
 
@@ -24,21 +22,14 @@ fn load_portfolio(heap: Global, portfolio: Portfolio<'_>) -> Result<Loaded, Allo
     Ok(Loaded { book, stop })
 }
 
-fn load_bytes(heap: Global, bytes: &[u8]) -> Result<Result<Loaded, Stop>, AllocError>
-    ensures loaded { IfOk result (λ a. seen_loaded a ≡ loading_of bytes.now) }
-    ensures texts { AcceptsTexts bytes.now (layout_of bytes.now) }
-{
-    match read(bytes) {
-        Ok(portfolio) => Ok(Ok(load_portfolio(heap, portfolio)?)),
-        Err(stop) => Ok(Err(stop)),
-    }
-}
-
 // Any bytes as a portfolio file: where they are laid out as one, a new book with its entries, to the last or to the
 // first that is declined; else where they stop being one.
 pub fn load(heap: Global, bytes: &[u8]) -> Result<Result<Loaded, Stop>, AllocError>
     ensures loaded { IfOk result (λ a. seen_loaded a ≡ loading_of bytes.now) }
     ensures portfolios { LoadsPortfolios bytes.now (loading_of bytes.now) }
 {
-    load_bytes(heap, bytes)
+    match read(bytes) {
+        Ok(portfolio) => Ok(Ok(load_portfolio(heap, portfolio)?)),
+        Err(stop) => Ok(Err(stop)),
+    }
 }

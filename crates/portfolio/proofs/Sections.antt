@@ -10,6 +10,7 @@ use Rattle.entries.specs.declared.stop.Stop.{Stop}
 use Rattle.lines.specs.Render.{printed, LineOfNumbers}
 use Rattle.portfolio_lines.specs.Lines.{number_line, investee_of, key_of, balance_of}
 use Rattle.portfolio_lines.specs.Text.{ThirteenDigits, investee_line, key_numbers}
+use Rattle.portfolio_lines.specs.declared.misread.Misread.{Misread}
 use Rattle.portfolio_lines.specs.declared.posts.Key.{Key}
 use Rattle.portfolio_lines.proofs.Investees.{investee-line, investee-reads}
 use Rattle.portfolio_lines.proofs.Texts.{row_line, row_reads, key-line, key_reads, balance-line, balance-reads, at_all}
@@ -28,7 +29,7 @@ pub record Section {X : Type 0} (write : X → List ℕ) (Fact : X → Type 0) (
   pub facts : AllByRecursion Fact xs
   pub count : length xs ≡ n
 
-module _ {X : Type 0} (read : List ℕ → Result X ℕ) (write : X → List ℕ) (Fact : X → Type 0) where
+module _ {X : Type 0} (read : List ℕ → Result X Misread) (write : X → List ℕ) (Fact : X → Type 0) where
   pub section-read : ((line : List ℕ) (x : X) → read line ≡ Ok x → (line ≡ write x) × Fact x) → (n l : ℕ) (ps : List (List ℕ)) (y : List X × List (List ℕ)) → section_of read n l ps ≡ Ok y → Section write Fact n ps y.0 y.1
   section-read law zero l ps y h =
       let pair : ◌≡◌ {A = List X × List (List ℕ)} ([], ps) y = cc in
@@ -36,7 +37,7 @@ module _ {X : Type 0} (read : List ℕ → Result X ℕ) (write : X → List ℕ
   section-read law (suc n) l ps y h = by (next_line ps) refl (section-read law n (suc l)) h
     where
       at-line : (r : List ℕ × List (List ℕ)) → next_line ps ≡ Some r → ((z : List X × List (List ℕ)) → section_of read n (suc l) r.1 ≡ Ok z → Section write Fact n r.1 z.0 z.1)
-          → (o : Result X ℕ) → read r.0 ≡ o → (t : Result (List X × List (List ℕ)) Stop) → section_of read n (suc l) r.1 ≡ t → in_front l o t ≡ Ok y → Section write Fact (suc n) ps y.0 y.1
+          → (o : Result X Misread) → read r.0 ≡ o → (t : Result (List X × List (List ℕ)) Stop) → section_of read n (suc l) r.1 ≡ t → in_front l o t ≡ Ok y → Section write Fact (suc n) ps y.0 y.1
       at-line r cut deep (Err p) e t q h = let z : ◌≡◌ {A = ℕ} 0 1 = cc in absurd (omega arith)
       at-line r cut deep (Ok x) e (Err s) q h = let z : ◌≡◌ {A = ℕ} 0 1 = cc in absurd (omega arith)
       at-line r cut deep (Ok x) e (Ok z) q h =
@@ -149,7 +150,7 @@ head-line line h ok = from (number_line 3 line) refl ok
         let spelled : ns ≡ get_or ns 0 0 ∷ get_or ns 1 0 ∷ guide_number g ∷ [] = sym (at_all 3 ns l.count) ∙ ap (λ n. get_or ns 0 0 ∷ get_or ns 1 0 ∷ n ∷ []) (sym number) in
         subst (λ h. HeadLine h line) same (record { numbers = subst (λ ms. LineOfNumbers 3 ms line) spelled l; investees = a; posts = b })
 
-    from : (r : Result (List ℕ) ℕ) → number_line 3 line ≡ r → head_from r ≡ Ok h → HeadLine h line
+    from : (r : Result (List ℕ) Misread) → number_line 3 line ≡ r → head_from r ≡ Ok h → HeadLine h line
     from (Err p) e ok = let z : ◌≡◌ {A = ℕ} 0 1 = cc in absurd (omega arith)
     from (Ok ns) e ok = by ns (row_line 3 line ns e) (guide_numbered (get_or ns 2 0)) refl ok
 

@@ -1,12 +1,15 @@
 -- Steps of cursors.
-use Rattle.std.proofs.Common.{◌≡◌, ℕ, zero, suc, ◌-◌, true, List, [], ◌∷◌, length, is_some, Some, None, Ok, Err, Option, Result, sym, refl, ap, ◌∙◌, subst, arith, Bor}
+use Rattle.std.proofs.Common.{◌≡◌, ℕ, true, List, [], ◌∷◌, length, is_some, Some, None, Ok, Err, Option, Result, sym, refl, ap, ◌∙◌, subst, arith, Bor}
+use Rattle.std.specs.Fn.{Shared, FnReturnsAt}
+use Rattle.std.specs.Prelude.{MatchResult}
 use Rattle.entries.specs.Entries.{PlainEntry, held_entry}
 use Rattle.entries.specs.declared.investee.InvesteeEntry.{InvesteeEntry}
 use Rattle.lines.specs.Fields.{pieces, pieces_left}
 use Rattle.lines.proofs.Printed.{some-piece}
 use Rattle.portfolio_lines.specs.Lines.{investee_of, held_line}
+use Rattle.portfolio_lines.specs.declared.misread.Misread.{Misread}
 use Rattle.portfolio_lines.specs.declared.posts.Key.{Key}
-use Rattle.portfolio.specs.Cursors.{with_line, lines_in, unless_wrong, all_in, NextAs, NextOf, NextEntry, NextPost}
+use Rattle.portfolio.specs.Cursors.{unless_wrong, all_in, NextAs, NextOf, NextRead, NextEntry, NextPost}
 use Rattle.portfolio.specs.Layout.{next_line, postings}
 
 -- ---- lines
@@ -20,60 +23,45 @@ pub line-ended : (was : List (List ℕ)) (x : List ℕ) (sep : ℕ) (rest : Opti
 line-ended was x sep None is there = let z : ◌≡◌ {A = ℕ} 0 1 = cc in absurd (omega arith)
 line-ended was x sep (Some r) is there = ap next_line is ∙ line_before x (pieces sep r.now) (some-piece sep r.now)
 
-pub section-next : (n : ℕ) (ps qs : List (List ℕ)) (x : List ℕ) → (n ≡ 0 → ⊥) → next_line ps ≡ Some (x, qs) → NextOf (lines_in n ps) (Some x) (lines_in (n - 1) qs)
-section-next zero ps qs x some is = absurd (some refl)
-section-next (suc n) ps qs x some is =
-    let less : n ≡ suc n - 1 = omega arith in
-    let shown : lines_in (suc n) ps ≡ x ∷ lines_in (suc n - 1) qs = ap (λ o. with_line o (lines_in n)) is ∙ ap (λ m. x ∷ lines_in m qs) less in
-    subst (λ l. NextOf l (Some x) (lines_in (suc n - 1) qs)) (sym shown) (refl, refl)
-
-pub section-none : (n : ℕ) (ps left : List (List ℕ)) → next_line ps ≡ None → left ≡ [] → NextOf (lines_in n ps) None left
-section-none zero ps left none closed = (refl, closed)
-section-none (suc n) ps left none closed =
-    let shown : lines_in (suc n) ps ≡ [] = ap (λ o. with_line o (lines_in n)) none in
-    subst (λ l. NextOf l None left) (sym shown) (refl, closed)
-
 -- ---- what lines read as
-
-next-some : {X : Type 0} (was left : List X) (x : X) → NextOf was (Some x) left → was ≡ x ∷ left
-next-some [] left x h = let z : ◌≡◌ {A = ℕ} 0 1 = cc h.0 in absurd (omega arith)
-next-some (y ∷ ys) left x h = let same : y ≡ x = cc h.0 in (λ t. same t ∷ sym h.1 t)
 
 next-none : {X : Type 0} (was left : List X) → NextOf was None left → (was ≡ []) × (left ≡ [])
 next-none [] left h = (refl, h.1)
 next-none (y ∷ ys) left h = let z : ◌≡◌ {A = ℕ} 0 1 = cc h.0 in absurd (omega arith)
 
-read_next : {X Y : Type 0} (held : X → Y) (read : List ℕ → Result X ℕ) (was left : List (List ℕ)) (line : List ℕ) (x : X) → NextOf was (Some line) left → read line ≡ Ok x → NextAs held (all_in read was) (Some (held x)) (all_in read left)
-read_next held read was left line x step reads =
-    let shown : all_in read was ≡ x ∷ all_in read left = ap (all_in read) (next-some was left line step) ∙ ap (λ r. unless_wrong r (all_in read left)) reads in
-    subst (λ l. NextAs held l (Some (held x)) (all_in read left)) (sym shown) (refl, refl)
+module _ {F X T : Type 0} (g : Shared F (Bor (List ℕ) × Unit {0}) (Result T Misread)) (f : F) (held : X → T) (read : List ℕ → Result X Misread) where
+  -- what a call reads, of what is written on the line
+  abbrev Tells : Type 0
+  Tells = (line : List ℕ) (r : Result T Misread) → FnReturnsAt g f line r → MatchResult r (λ y. (x : X) × (read line ≡ Ok x) × (held x ≡ y)) (λ e. read line ≡ Err e)
 
-read-wrong : {X Y : Type 0} (held : X → Y) (read : List ℕ → Result X ℕ) (was left closed : List (List ℕ)) (line : List ℕ) (p : ℕ) → NextOf was (Some line) left → read line ≡ Err p → closed ≡ [] → NextAs held (all_in read was) None (all_in read closed)
-read-wrong held read was left closed line p step reads none =
-    let shown : all_in read was ≡ [] = ap (all_in read) (next-some was left line step) ∙ ap (λ r. unless_wrong r (all_in read left)) reads in
-    subst (λ l. NextAs held l None (all_in read closed)) (sym shown) (refl, ap (all_in read) none)
+  pub next-as : Tells → (was : List (List ℕ)) (r : Option T) (left : List (List ℕ)) → NextRead g f was r left → NextAs held (all_in read was) r (all_in read left)
+  next-as tells [] r left (none, closed) = (none, ap (all_in read) closed)
+  next-as tells (line ∷ lines) None left ((e, gave), closed) =
+      let shown : all_in read (line ∷ lines) ≡ [] = ap (λ r. unless_wrong r (all_in read lines)) (tells line (Err e) gave) in
+      subst (λ l. NextAs held l None (all_in read left)) (sym shown) (refl, ap (all_in read) closed)
+  next-as tells (line ∷ lines) (Some y) left (gave, rest) =
+      let (x, reads, same) = tells line (Ok y) gave in
+      let shown : all_in read (line ∷ lines) ≡ x ∷ all_in read lines = ap (λ r. unless_wrong r (all_in read lines)) reads in
+      subst (λ l. NextAs held l (Some y) (all_in read left)) (sym shown) (ap Some (sym same), ap (all_in read) rest)
 
-held-some : (x : Result PlainEntry ℕ) (y : InvesteeEntry) → Ok y ≡ held_line x → (e : PlainEntry) × (x ≡ Ok e) × (held_entry e ≡ y)
-held-some (Ok e) y h = let same : held_entry e ≡ y = cc in (e, refl, same)
-held-some (Err p) y h = let z : ◌≡◌ {A = ℕ} 0 1 = cc in absurd (omega arith)
+held-tells : (x : Result PlainEntry Misread) (r : Result InvesteeEntry Misread) → r ≡ held_line x → MatchResult r (λ y. (e : PlainEntry) × (x ≡ Ok e) × (held_entry e ≡ y)) (λ e. x ≡ Err e)
+held-tells (Ok e) (Ok y) is = let same : held_entry e ≡ y = cc in (e, refl, same)
+held-tells (Ok e) (Err q) is = let z : ◌≡◌ {A = ℕ} 0 1 = cc in absurd (omega arith)
+held-tells (Err p) (Ok y) is = let z : ◌≡◌ {A = ℕ} 0 1 = cc in absurd (omega arith)
+held-tells (Err p) (Err q) is = let same : p ≡ q = cc in ap Err same
 
-held-wrong : (x : Result PlainEntry ℕ) (p : ℕ) → Err p ≡ held_line x → x ≡ Err p
-held-wrong (Ok e) p h = let z : ◌≡◌ {A = ℕ} 0 1 = cc in absurd (omega arith)
-held-wrong (Err q) p h = let same : q ≡ p = cc in ap Err same
+value-tells : {X : Type 0} (x r : Result X Misread) → r ≡ x → MatchResult r (λ y. (v : X) × (x ≡ Ok v) × (v ≡ y)) (λ e. x ≡ Err e)
+value-tells x (Ok y) is = (y, sym is, refl)
+value-tells x (Err e) is = sym is
 
-pub entry_next : (was left : List (List ℕ)) (line : List ℕ) (y : InvesteeEntry) → NextOf was (Some line) left → Ok y ≡ held_line (investee_of line) → NextEntry (all_in investee_of was) (Some y) (all_in investee_of left)
-entry_next was left line y step reads =
-    let (e, is, same) = held-some (investee_of line) y reads in
-    subst (λ y. NextEntry (all_in investee_of was) (Some y) (all_in investee_of left)) same (read_next held_entry investee_of was left line e step is)
+-- the next investee, and the next of what is held as it is written
+pub entry_next : {F : Type 0} (g : Shared F (Bor (List ℕ) × Unit {0}) (Result InvesteeEntry Misread)) (f : F) → ((line : List ℕ) (r : Result InvesteeEntry Misread) → FnReturnsAt g f line r → r ≡ held_line (investee_of line))
+    → (was : List (List ℕ)) (r : Option InvesteeEntry) (left : List (List ℕ)) → NextRead g f was r left → NextEntry (all_in investee_of was) r (all_in investee_of left)
+entry_next g f law = next-as g f held_entry investee_of (λ line r gave. held-tells (investee_of line) r (law line r gave))
 
-pub entry-wrong : (was left closed : List (List ℕ)) (line : List ℕ) (p : ℕ) → NextOf was (Some line) left → Err p ≡ held_line (investee_of line) → closed ≡ [] → NextEntry (all_in investee_of was) None (all_in investee_of closed)
-entry-wrong was left closed line p step reads none = read-wrong held_entry investee_of was left closed line p step (held-wrong (investee_of line) p reads) none
-
-pub value-next : {X : Type 0} (read : List ℕ → Result X ℕ) (was left : List (List ℕ)) (line : List ℕ) (x : X) → NextOf was (Some line) left → Ok x ≡ read line → NextOf (all_in read was) (Some x) (all_in read left)
-value-next read was left line x step reads = read_next (λ x. x) read was left line x step (sym reads)
-
-pub value-wrong : {X : Type 0} (read : List ℕ → Result X ℕ) (was left closed : List (List ℕ)) (line : List ℕ) (p : ℕ) → NextOf was (Some line) left → Err p ≡ read line → closed ≡ [] → NextOf (all_in read was) None (all_in read closed)
-value-wrong read was left closed line p step reads none = read-wrong (λ x. x) read was left closed line p step (sym reads) none
+pub value-next : {F X : Type 0} (g : Shared F (Bor (List ℕ) × Unit {0}) (Result X Misread)) (f : F) (read : List ℕ → Result X Misread) → ((line : List ℕ) (r : Result X Misread) → FnReturnsAt g f line r → r ≡ read line)
+    → (was : List (List ℕ)) (r : Option X) (left : List (List ℕ)) → NextRead g f was r left → NextOf (all_in read was) r (all_in read left)
+value-next g f read law = next-as g f (λ x. x) read (λ line r gave. value-tells (read line) r (law line r gave))
 
 no-balance : (keys : List Key) → postings keys [] ≡ []
 no-balance [] = refl

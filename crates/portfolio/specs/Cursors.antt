@@ -1,11 +1,14 @@
 -- What a portfolio in the bytes of a file stands for, and what one step of a cursor gives.
 use Rattle.std.specs.Prelude.{◌≡◌, ℕ, zero, suc, List, [], ◌∷◌, length, Some, None, Ok, Err, Option, Result}
+use Rattle.std.specs.Borrow.{Bor}
+use Rattle.std.specs.Fn.{Shared, FnReturnsAt}
 use Rattle.entries.specs.Entries.{PlainEntry, PlainPortfolio, held_entry}
 use Rattle.entries.specs.declared.investee.InvesteeEntry.{InvesteeEntry}
 use Rattle.entries.specs.declared.investee.PostEntry.{PostEntry}
 use Rattle.entries.specs.declared.stop.Stop.{Stop}
 use Rattle.lines.specs.Fields.{pieces_left}
 use Rattle.portfolio_lines.specs.Lines.{investee_of, key_of, balance_of}
+use Rattle.portfolio_lines.specs.declared.misread.Misread.{Misread}
 use Rattle.portfolio_lines.specs.declared.posts.Key.{Key}
 use Rattle.portfolio.specs.Layout.{next_line, postings}
 use Rattle.portfolio.specs.declared.file.Investees.{Investees}
@@ -25,12 +28,12 @@ lines_in (suc n) ps = with_line (next_line ps) (lines_in n)
 abbrev pub lines_left : Section → List (List ℕ)
 lines_left s = lines_in s.left (pieces_left s.lines.separator s.lines.rest)
 
-abbrev pub unless_wrong : {X : Type 0} → Result X ℕ → List X → List X
+abbrev pub unless_wrong : {X : Type 0} → Result X Misread → List X → List X
 unless_wrong (Ok x) xs = x ∷ xs
-unless_wrong (Err p) xs = []
+unless_wrong (Err e) xs = []
 
 -- what lines read as, up to the first that is wrong; in a file that is laid out none is
-abbrev pub all_in : {X : Type 0} → (List ℕ → Result X ℕ) → List (List ℕ) → List X
+abbrev pub all_in : {X : Type 0} → (List ℕ → Result X Misread) → List (List ℕ) → List X
 all_in read [] = []
 all_in read (line ∷ lines) = unless_wrong (read line) (all_in read lines)
 
@@ -76,11 +79,21 @@ NextAs held (x ∷ xs) r left = (r ≡ Some (held x)) × (left ≡ xs)
 abbrev pub NextOf : {X : Type 0} → List X → Option X → List X → Type 0
 NextOf was r left = NextAs (λ x. x) was r left
 
-abbrev pub NextLine : List (List ℕ) → Option (List ℕ) → List (List ℕ) → Type 0
-NextLine was r left = NextOf was r left
+-- what a call of f at the first of some lines gives; nothing, and no line left, of no line or where that does not read
+abbrev pub NextRead : {F T : Type 0} → Shared F (Bor (List ℕ) × Unit {0}) (Result T Misread) → F → List (List ℕ) → Option T → List (List ℕ) → Type 0
+NextRead g f [] r left = (r ≡ None) × (left ≡ [])
+NextRead g f (line ∷ lines) None left = ((e : Misread) × FnReturnsAt g f line (Err e)) × (left ≡ [])
+NextRead g f (line ∷ lines) (Some x) left = FnReturnsAt g f line (Ok x) × (left ≡ lines)
 
 abbrev pub NextEntry : List PlainEntry → Option InvesteeEntry → List PlainEntry → Type 0
 NextEntry was r left = NextAs held_entry was r left
 
 abbrev pub NextPost : List PostEntry → Option PostEntry → List PostEntry → Type 0
 NextPost was r left = NextOf was r left
+
+-- a call gave the first of the investees that were left, or nothing of none; the same of the posts
+abbrev pub GivesInvestee : Investees → Option InvesteeEntry → Investees → Type 0
+GivesInvestee c r d = NextEntry (investees_left c) r (investees_left d)
+
+abbrev pub GivesPost : Posts → Option PostEntry → Posts → Type 0
+GivesPost c r d = NextPost (posts_left c) r (posts_left d)

@@ -15,6 +15,8 @@ use Rattle.faults.specs.declared.Refusal.TheVariants.{FieldNotAsLaidOut, FileBey
 use Rattle.lines.specs.Fields.{pieces}
 use Rattle.portfolio_lines.specs.Counted.{and_then}
 use Rattle.portfolio_lines.specs.Lines.{number_line, investee_of, key_of, balance_of}
+use Rattle.portfolio_lines.specs.Misreads.{place_of}
+use Rattle.portfolio_lines.specs.declared.misread.Misread.{Misread}
 use Rattle.portfolio_lines.specs.declared.posts.Key.{Key}
 use Rattle.portfolio.specs.declared.head.Head.{Head}
 
@@ -45,13 +47,13 @@ on_line l None read = Err (missing l)
 on_line l (Some r) read = read r.0 r.1
 
 -- what line l reads as, in front of what the lines after it read as
-abbrev pub in_front : {X : Type 0} → ℕ → Result X ℕ → Result (List X × List (List ℕ)) Stop → Result (List X × List (List ℕ)) Stop
-in_front l (Err place) rest = Err (not_laid_out l place)
+abbrev pub in_front : {X : Type 0} → ℕ → Result X Misread → Result (List X × List (List ℕ)) Stop → Result (List X × List (List ℕ)) Stop
+in_front l (Err e) rest = Err (not_laid_out l (place_of e))
 in_front l (Ok x) (Err s) = Err s
 in_front l (Ok x) (Ok r) = Ok (x ∷ r.0, r.1)
 
 -- n lines of one kind, the first of which is line l: what they read as, and the pieces after them
-abbrev pub section_of : {X : Type 0} → (List ℕ → Result X ℕ) → (n l : ℕ) → List (List ℕ) → Result (List X × List (List ℕ)) Stop
+abbrev pub section_of : {X : Type 0} → (List ℕ → Result X Misread) → (n l : ℕ) → List (List ℕ) → Result (List X × List (List ℕ)) Stop
 section_of read zero l ps = Ok ([], ps)
 section_of read (suc n) l ps = on_line l (next_line ps) (λ line qs. in_front l (read line) (section_of read n (suc l) qs))
 
@@ -71,8 +73,8 @@ abbrev pub head_by : (investees posts : ℕ) → Option Guide → Result Head St
 head_by investees posts None = Err beyond_limits
 head_by investees posts (Some g) = cond (within_limits investees posts) (Ok (record { investees = investees; posts = posts; guide = g })) (Err beyond_limits)
 
-abbrev pub head_from : Result (List ℕ) ℕ → Result Head Stop
-head_from (Err place) = Err (not_laid_out 1 place)
+abbrev pub head_from : Result (List ℕ) Misread → Result Head Stop
+head_from (Err e) = Err (not_laid_out 1 (place_of e))
 head_from (Ok ns) = head_by (slice_index ns 0) (slice_index ns 1) (guide_numbered (slice_index ns 2))
 
 -- line 1: the number of investees, the number of posts, the guide; its layout, then its limits

@@ -1,26 +1,12 @@
 // A portfolio in the bytes of a file: its guide, and cursors to its investees and posts.
 ghost use Rattle.std.specs.Prelude.{◌≡◌};
-ghost use Rattle.portfolio_lines.specs.Lines.{investee_of};
-ghost use Rattle.portfolio.specs.Cursors.{all_in, lines_left, investees_left, posts_left, keys_left, balances_left, NextEntry, NextPost, NextOf, plain_portfolio, investee_count, post_count};
+ghost use Rattle.portfolio.specs.Cursors.{investees_left, posts_left, plain_portfolio, investee_count, post_count};
 
 use crate::section::Section;
 use entries::guide::Guide;
 use entries::investee::{InvesteeEntry, PostEntry};
 use portfolio_lines::investee::read_investee;
 use portfolio_lines::posts::{Key, read_balance, read_key};
-
-fn next_investee(lines: &mut Section<'_>) -> Option<InvesteeEntry>
-    ensures { NextEntry (all_in investee_of (lines_left lines.old)) result (all_in investee_of (lines_left lines.new)) }
-{
-    let line = lines.next()?;
-    match read_investee(line) {
-        Ok(entry) => Some(entry),
-        Err(_) => {
-            lines.close();
-            None
-        }
-    }
-}
 
 // The investees of a file that are still to read.
 #[derive(Clone, Copy)]
@@ -35,12 +21,21 @@ impl Investees<'_> {
     {
         self.lines.left
     }
+}
+
+impl Iterator for Investees<'_> {
+    ghost use Rattle.std.specs.Iterator.{item_count};
+    ghost use Rattle.portfolio.specs.Cursors.{investees_left, GivesInvestee};
+
+    type Item = InvesteeEntry;
+
+    ghost next_gives = { GivesInvestee };
+
+    ghost remaining = { item_count investees_left };
 
     // The next investee in the order of the file; nothing after the last.
-    pub fn next(&mut self) -> Option<InvesteeEntry>
-        ensures { NextEntry (investees_left self.old) result (investees_left self.new) }
-    {
-        next_investee(&mut self.lines)
+    fn next(&mut self) -> Option<InvesteeEntry> {
+        self.lines.next_read(read_investee)
     }
 }
 
@@ -51,32 +46,6 @@ pub struct Posts<'a> {
     pub(crate) balances: Section<'a>,
 }
 
-fn next_key(keys: &mut Section<'_>) -> Option<Key>
-    ensures { NextOf (keys_left keys.old) result (keys_left keys.new) }
-{
-    let line = keys.next()?;
-    match read_key(line) {
-        Ok(key) => Some(key),
-        Err(_) => {
-            keys.close();
-            None
-        }
-    }
-}
-
-fn next_balance(balances: &mut Section<'_>) -> Option<u64>
-    ensures { NextOf (balances_left balances.old) result (balances_left balances.new) }
-{
-    let line = balances.next()?;
-    match read_balance(line) {
-        Ok(balance) => Some(balance),
-        Err(_) => {
-            balances.close();
-            None
-        }
-    }
-}
-
 impl Posts<'_> {
     // How many are left.
     pub fn len(&self) -> usize
@@ -84,17 +53,26 @@ impl Posts<'_> {
     {
         self.keys.left
     }
+}
+
+impl Iterator for Posts<'_> {
+    ghost use Rattle.std.specs.Iterator.{item_count};
+    ghost use Rattle.portfolio.specs.Cursors.{posts_left, GivesPost};
+
+    type Item = PostEntry;
+
+    ghost next_gives = { GivesPost };
+
+    ghost remaining = { item_count posts_left };
 
     // The next post in the order of the file; nothing after the last.
-    pub fn next(&mut self) -> Option<PostEntry>
-        ensures { NextPost (posts_left self.old) result (posts_left self.new) }
-    {
-        let key = next_key(&mut self.keys)?;
-        let balance = next_balance(&mut self.balances)?;
+    fn next(&mut self) -> Option<PostEntry> {
+        let Key { branch, id, month } = self.keys.next_read(read_key)?;
+        let balance = self.balances.next_read(read_balance)?;
         Some(PostEntry {
-            branch: key.branch,
-            id: key.id,
-            month: key.month,
+            branch,
+            id,
+            month,
             balance,
         })
     }

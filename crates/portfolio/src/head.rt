@@ -35,7 +35,7 @@ pub fn read_head(line: &[u8]) -> Result<Head, Stop>
     ensures limits { IfOk result (λ h. (h.investees ≤ 200) × (h.posts ≤ 1000)) }
 {
     match read_row::<3>(line) {
-        Err(place) => Err(wrong_field(HEAD_LINE, place)),
+        Err(misread) => Err(wrong_field(HEAD_LINE, misread)),
         Ok(numbers) => {
             let [investees, posts, guide] = numbers;
             match Guide::numbered(guide) {

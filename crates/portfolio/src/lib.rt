@@ -6,3 +6,4 @@ mod head;
 pub mod layout;
 mod section;
 mod stops;
+mod walk;

@@ -1,15 +1,15 @@
 // Lines of a file, one after another.
-ghost use Rattle.std.specs.Prelude.{◌≡◌, []};
-ghost use Rattle.lines.specs.Fields.{pieces_left};
-ghost use Rattle.std.specs.Option.{option_map};
-ghost use Rattle.portfolio.specs.Cursors.{lines_left, NextLine};
+ghost use Rattle.std.specs.Prelude.{◌≡◌};
+ghost use Rattle.lines.specs.Pieces.{left_in};
+ghost use Rattle.portfolio.specs.Cursors.{lines_left, NextRead};
 ghost use Rattle.portfolio.specs.Layout.{next_line, gone};
 
 use lines::pieces::Pieces;
+use portfolio_lines::misread::Misread;
 
 // The next line, which a line feed has to end.
 pub fn next_line<'a>(lines: &mut Pieces<'a>) -> Option<&'a [u8]>
-    ensures { next_line (pieces_left lines.old.separator lines.old.rest) ≡ gone result (pieces_left lines.new.separator lines.new.rest) }
+    ensures { next_line (left_in lines.old) ≡ gone result (left_in lines.new) }
 {
     let line = lines.next()?;
     if lines.rest.is_none() {
@@ -25,30 +25,16 @@ pub struct Section<'a> {
     pub lines: Pieces<'a>,
 }
 
-impl<'a> Section<'a> {
-    // The next line of the section; nothing after the last.
-    pub fn next(&mut self) -> Option<&'a [u8]>
-        ensures { NextLine (lines_left self.old) (option_map (λ x. x.now) result) (lines_left self.new) }
+impl Section<'_> {
+    // What the next line reads as; nothing after the last, and from the first on that does not read.
+    pub fn next_read<T, F: Fn(&[u8]) -> Result<T, Misread>>(&mut self, read: F) -> Option<T>
+        requires { F.IsAlwaysCallable read }
+        ensures { NextRead F.Fn read (lines_left self.old) result (lines_left self.new) }
     {
-        if self.left == 0 {
-            return None;
-        }
-        match next_line(&mut self.lines) {
-            Some(line) => {
-                self.left -= 1;
-                Some(line)
-            }
-            None => {
-                self.close();
-                None
-            }
-        }
-    }
-
-    // No line is left.
-    pub fn close(&mut self)
-        ensures { lines_left self.new ≡ [] }
-    {
+        let left = self.left.checked_sub(1)?;
         self.left = 0;
+        let value = read(next_line(&mut self.lines)?).ok()?;
+        self.left = left;
+        Some(value)
     }
 }

@@ -1,9 +1,11 @@
 // Where a layout stops.
 ghost use Rattle.std.specs.Prelude.{◌≡◌};
+ghost use Rattle.portfolio_lines.specs.Misreads.{place_of};
 ghost use Rattle.portfolio.specs.Layout.{missing, not_laid_out, beyond_limits};
 
 use entries::stop::Stop;
 use faults::{Fault, Refusal};
+use portfolio_lines::misread::Misread;
 
 // A line is missing or not ended, or bytes stand where none may.
 pub fn line_missing(line: usize) -> Stop
@@ -13,10 +15,10 @@ pub fn line_missing(line: usize) -> Stop
 }
 
 // A line is not as laid out.
-pub fn wrong_field(line: usize, place: u32) -> Stop
-    ensures { result ≡ not_laid_out line place }
+pub fn wrong_field(line: usize, misread: Misread) -> Stop
+    ensures { result ≡ not_laid_out line (place_of misread) }
 {
-    Stop::at(line, Fault::at(Refusal::FieldNotAsLaidOut, place))
+    Stop::at(line, Fault::at(Refusal::FieldNotAsLaidOut, misread.place()))
 }
 
 // The file or its first line is beyond the limits.

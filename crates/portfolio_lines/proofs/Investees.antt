@@ -8,6 +8,7 @@ use Rattle.entries.specs.Entries.{PlainMethod, PlainEntry, report, bill, sector_
 use Rattle.lines.specs.Fields.{pieces}
 use Rattle.lines.specs.Render.{join}
 use Rattle.lines.proofs.Printed.{Free, join-pieces}
+use Rattle.portfolio_lines.specs.declared.misread.Misread.TheVariants.{Field}
 use Rattle.portfolio_lines.specs.Counted.{FieldsLeft, Reading, and_then, fields_of, numbers_in, letter_at, letter_in}
 use Rattle.portfolio_lines.specs.Lines.{entry_of, entry_in, investee_of}
 use Rattle.portfolio_lines.specs.Methods.{report_in, mean_in, bill_in, term_of, terms_in, in_front, method_by, method_in}
@@ -93,7 +94,7 @@ by-letter c place g x h =
     ⊎_elim (λ t. named 80 t (bill-read g x (sym (cond-true (eqb c 80) _ _ t) ∙ h₁)))
     (λ b. let h₂ = sym (cond-false (eqb c 80) _ _ b) ∙ h₁ in
     ⊎_elim (λ t. named 69 t (mean-read g x (sym (cond-true (eqb c 69) _ _ t) ∙ h₂)))
-    (λ d. let h₃ : ◌≡◌ {A = Reading PlainMethod} (Err place) (Ok x) = sym (cond-false (eqb c 69) _ _ d) ∙ h₂ in let z : ◌≡◌ {A = ℕ} 0 1 = cc in absurd (omega arith))
+    (λ d. let h₃ : ◌≡◌ {A = Reading PlainMethod} (Err (Field place)) (Ok x) = sym (cond-false (eqb c 69) _ _ d) ∙ h₂ in let z : ◌≡◌ {A = ℕ} 0 1 = cc in absurd (omega arith))
     (cases_Bool (eqb c 69))) (cases_Bool (eqb c 80))) (cases_Bool (eqb c 82))
   where
     named : (l : ℕ) → eqb c l ≡ true → Lettered l g.left x → Lettered c g.left x

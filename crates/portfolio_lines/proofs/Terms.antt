@@ -4,6 +4,7 @@ use native.Mathlib.Nat.{sub-zero}
 use Rattle.factors.specs.declared.Activity.{Activity}
 use Rattle.entries.specs.Bills.{bill_of}
 use Rattle.entries.specs.declared.method.Bill.{Bill}
+use Rattle.portfolio_lines.specs.declared.misread.Misread.{Misread}
 use Rattle.portfolio_lines.specs.Counted.{FieldsLeft, Reading, and_then, numbers_in}
 use Rattle.portfolio_lines.specs.Methods.{term_of, terms_in, in_front, held_bill}
 
@@ -40,7 +41,7 @@ sofar-more n i was held grown left next ns lt (terms, is, so) read adds = (
   so ∙ ap (after terms) (step n i left lt ∙ ap (λ r. and_then r (λ r. in_front (term_of r.0) (terms_in (n - (i + 1)) r.1))) read) ∙ after_front terms (term_of ns) (terms_in (n - (i + 1)) next),
 )
 
-pub sofar-wrong : (n i : ℕ) (was : FieldsLeft) (held : Bill) (left : FieldsLeft) (p : ℕ) → i < n → Sofar n i was held left → numbers_in 2 left ≡ Err p → held_bill (terms_in n was) ≡ Err p
+pub sofar-wrong : (n i : ℕ) (was : FieldsLeft) (held : Bill) (left : FieldsLeft) (p : Misread) → i < n → Sofar n i was held left → numbers_in 2 left ≡ Err p → held_bill (terms_in n was) ≡ Err p
 sofar-wrong n i was held left p lt (terms, is, so) read =
     ap held_bill (so ∙ ap (after terms) (step n i left lt ∙ ap (λ r. and_then r (λ r. in_front (term_of r.0) (terms_in (n - (i + 1)) r.1))) read))
 

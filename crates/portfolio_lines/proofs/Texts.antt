@@ -7,17 +7,19 @@ use Rattle.lines.specs.Render.{join, printed, LineOfNumbers}
 use Rattle.lines.proofs.Printed.{Free, join-pieces, pieces-join}
 use Rattle.portfolio_lines.specs.Counted.{FieldsLeft, Reading, and_then, fields_of, numbers_in, none_at, none_left}
 use Rattle.portfolio_lines.specs.Lines.{whole_line, number_line, key_from, key_of, balance_of}
-use Rattle.portfolio_lines.specs.Text.{ThirteenDigits, key_numbers}
+use Rattle.portfolio_lines.specs.Text.{ThirteenDigits, key_numbers, ReadsRows, ReadsKeys, ReadsBalances}
+use Rattle.portfolio_lines.specs.declared.misread.Misread.{Misread}
+use Rattle.portfolio_lines.specs.declared.misread.Misread.TheVariants.{TooLong}
 use Rattle.portfolio_lines.specs.declared.posts.Key.{Key}
 use Rattle.portfolio_lines.proofs.Spelled.{Written, numbers-read, numbers-gives, decimals-free, join_free}
 
 -- ---- one reading after another
 
-pub then_ok : {X Y : Type 0} (r : Result X ℕ) (f : X → Result Y ℕ) (y : Y) → and_then r f ≡ Ok y → (x : X) × (r ≡ Ok x) × (f x ≡ Ok y)
+pub then_ok : {X Y : Type 0} (r : Result X Misread) (f : X → Result Y Misread) (y : Y) → and_then r f ≡ Ok y → (x : X) × (r ≡ Ok x) × (f x ≡ Ok y)
 then_ok (Ok x) f y h = (x, refl, h)
 then_ok (Err p) f y h = let z : ◌≡◌ {A = ℕ} 0 1 = cc in absurd (omega arith)
 
-pub then-gives : {X Y : Type 0} {r : Result X ℕ} (f : X → Result Y ℕ) (x : X) → r ≡ Ok x → and_then r f ≡ f x
+pub then-gives : {X Y : Type 0} {r : Result X Misread} (f : X → Result Y Misread) (x : X) → r ≡ Ok x → and_then r f ≡ f x
 then-gives f x is = ap (λ r. and_then r f) is
 
 none-ok : {X : Type 0} (x y : X) (p : ℕ) (fs : List (List ℕ)) → none_at x p fs ≡ Ok y → (x ≡ y) × (fs ≡ [])
@@ -28,7 +30,7 @@ none-ok x y p (f ∷ fs) h = let z : ◌≡◌ {A = ℕ} 0 1 = cc in absurd (ome
 pub whole-ok : {X : Type 0} (read : FieldsLeft → Reading X) (line : List ℕ) (x : X) → whole_line read line ≡ Ok x → (length line ≤ 511) × ((g : FieldsLeft) × (read (fields_of line) ≡ Ok (x, g)) × (g.left ≡ []))
 whole-ok {X} read line x h =
     ⊎_elim
-    (λ over. let z : ◌≡◌ {A = Result X ℕ} (Err 0) (Ok x) = sym (cond-true (ltb 511 (length line)) _ _ (lt-ltb 511 (length line) over)) ∙ h in let o : ◌≡◌ {A = ℕ} 0 1 = cc in absurd (omega arith))
+    (λ over. let z : ◌≡◌ {A = Result X Misread} (Err TooLong) (Ok x) = sym (cond-true (ltb 511 (length line)) _ _ (lt-ltb 511 (length line) over)) ∙ h in let o : ◌≡◌ {A = ℕ} 0 1 = cc in absurd (omega arith))
     (λ fits.
     let (y, reads, ends) = then_ok (read (fields_of line)) (λ r. none_left r.0 r.1) x (sym (cond-false (ltb 511 (length line)) _ _ (le-ltb 511 (length line) fits)) ∙ h) in
     let (same, none) = none-ok y.0 x y.1.place y.1.left ends in
@@ -63,6 +65,9 @@ pub row_reads : (k : ℕ) (line ns : List ℕ) → 0 < k → LineOfNumbers k ns 
 row_reads k line ns some l =
     let fields : pieces 32 line ≡ map decimal ns ++ [] = split-numbers ns line (omega (arith, l.count)) l.bytes_are l.digits ∙ sym (append-nil (map decimal ns)) in
     whole-gives (numbers_in k) line ns (1 + k) l.short (numbers-gives k 1 (pieces 32 line) ns [] l.count (record { small = l.digits; spelled = fields }))
+
+pub reads_rows : (k : ℕ) (line : List ℕ) (r : Result (List ℕ) Misread) → 0 < k → r ≡ number_line k line → ReadsRows k line r
+reads_rows k line r some is ns = (λ h. row_line k line ns (sym is ∙ h), λ l. is ∙ row_reads k line ns some l)
 
 -- ---- numbers by their places
 
@@ -101,6 +106,12 @@ balance-line line balance h =
 
 pub balance-reads : (line : List ℕ) (balance : ℕ) → LineOfNumbers 1 (balance ∷ []) line → balance_of line ≡ Ok balance
 balance-reads line balance l = then-gives (λ ns. Ok (get_or ns 0 0)) (balance ∷ []) (row_reads 1 line (balance ∷ []) (omega arith) l)
+
+pub reads_keys : (line : List ℕ) (r : Result Key Misread) → r ≡ key_of line → ReadsKeys line r
+reads_keys line r is key = (λ h. key-line line key (sym is ∙ h), λ l. is ∙ key_reads line key l)
+
+pub reads_balances : (line : List ℕ) (r : Result ℕ Misread) → r ≡ balance_of line → ReadsBalances line r
+reads_balances line r is balance = (λ h. balance-line line balance (sym is ∙ h), λ l. is ∙ balance-reads line balance l)
 
 pub row-free : (ns : List ℕ) → ThirteenDigits ns → Free 10 (printed ns)
 row-free ns small = join_free 10 32 (map decimal ns) (λ e. omega arith) (decimals-free 10 ns (omega arith) small)

@@ -1,4 +1,6 @@
 pub mod Counted
 pub mod Lines
 pub mod Methods
+pub mod Misreads
+pub mod Rows
 pub mod Text

@@ -5,6 +5,7 @@ use Rattle.entries.specs.Bills.{bill_of}
 use Rattle.entries.specs.Entries.{PlainMethod, report, bill, sector_mean, held_method}
 use Rattle.entries.specs.declared.method.Bill.{Bill}
 use Rattle.entries.specs.declared.method.Method.{Method}
+use Rattle.portfolio_lines.specs.declared.misread.Misread.TheVariants.{Field}
 use Rattle.portfolio_lines.specs.Counted.{FieldsLeft, Reading, and_then, numbers_in, letter_in}
 
 -- kilograms, mark
@@ -20,7 +21,7 @@ term_of ns = record { row = slice_index ns 0; quantity = slice_index ns 1 }
 
 abbrev pub in_front : Activity → Reading (List Activity) → Reading (List Activity)
 in_front term (Ok r) = Ok (term ∷ r.0, r.1)
-in_front term (Err p) = Err p
+in_front term (Err e) = Err e
 
 -- so many terms: row, quantity
 abbrev pub terms_in : ℕ → FieldsLeft → Reading (List Activity)
@@ -33,7 +34,7 @@ bill_in f = and_then (numbers_in 1 f) (λ r. and_then (terms_in (slice_index r.0
 
 -- R, P or E, and its numbers
 abbrev pub method_by : (place letter : ℕ) → FieldsLeft → Reading PlainMethod
-method_by place letter f = cond (letter == 82) (report_in f) (cond (letter == 80) (bill_in f) (cond (letter == 69) (mean_in f) (Err place)))
+method_by place letter f = cond (letter == 82) (report_in f) (cond (letter == 80) (bill_in f) (cond (letter == 69) (mean_in f) (Err (Field place))))
 
 abbrev pub method_in : FieldsLeft → Reading PlainMethod
 method_in f = and_then (letter_in f) (λ r. method_by f.place r.0 r.1)
@@ -42,8 +43,8 @@ method_in f = and_then (letter_in f) (λ r. method_by f.place r.0 r.1)
 
 abbrev pub held : Reading PlainMethod → Reading Method
 held (Ok r) = Ok (held_method r.0, r.1)
-held (Err p) = Err p
+held (Err e) = Err e
 
 abbrev pub held_bill : Reading (List Activity) → Reading Bill
 held_bill (Ok r) = Ok (bill_of r.0, r.1)
-held_bill (Err p) = Err p
+held_bill (Err e) = Err e

@@ -7,6 +7,7 @@ use Rattle.factors.specs.declared.Activity.{Activity}
 use Rattle.entries.specs.Entries.{PlainMethod, PlainEntry, report, bill, sector_mean}
 use Rattle.lines.specs.Render.{join, LineOfNumbers}
 use Rattle.portfolio_lines.specs.Lines.{investee_of}
+use Rattle.portfolio_lines.specs.declared.misread.Misread.{Misread}
 use Rattle.portfolio_lines.specs.declared.posts.Key.{Key}
 
 -- each number has at most 13 digits
@@ -55,14 +56,14 @@ key_numbers key = key.branch ∷ key.id ∷ key.month ∷ []
 
 -- ---- exactly the lines that are written are read
 
-abbrev pub ReadsRows : ℕ → List ℕ → Result (List ℕ) ℕ → Type 0
+abbrev pub ReadsRows : ℕ → List ℕ → Result (List ℕ) Misread → Type 0
 ReadsRows k line r = (ns : List ℕ) → (r ≡ Ok ns → LineOfNumbers k ns line) × (LineOfNumbers k ns line → r ≡ Ok ns)
 
 abbrev pub ReadsInvestees : List ℕ → Type 0
 ReadsInvestees line = (e : PlainEntry) → (investee_of line ≡ Ok e → IsInvesteeLine e line) × (IsInvesteeLine e line → investee_of line ≡ Ok e)
 
-abbrev pub ReadsKeys : List ℕ → Result Key ℕ → Type 0
+abbrev pub ReadsKeys : List ℕ → Result Key Misread → Type 0
 ReadsKeys line r = (key : Key) → (r ≡ Ok key → LineOfNumbers 3 (key_numbers key) line) × (LineOfNumbers 3 (key_numbers key) line → r ≡ Ok key)
 
-abbrev pub ReadsBalances : List ℕ → Result ℕ ℕ → Type 0
+abbrev pub ReadsBalances : List ℕ → Result ℕ Misread → Type 0
 ReadsBalances line r = (balance : ℕ) → (r ≡ Ok balance → LineOfNumbers 1 (balance ∷ []) line) × (LineOfNumbers 1 (balance ∷ []) line → r ≡ Ok balance)

@@ -3,12 +3,8 @@ ghost use Rattle.std.specs.Prelude.{◌≡◌};
 ghost use Rattle.portfolio_lines.specs.Counted.{fields_left, numbers_in, letter_in, none_left, leaving, index_of};
 
 use crate::counted::Fields;
+use crate::misread::Misread;
 use lines::fields::{LineError, numbers};
-
-// The place of a line as a whole, and of its first field.
-pub const WHOLE_LINE: u32 = 0;
-
-pub const FIRST_FIELD: u32 = 1;
 
 // The field, from 0, that an error names; the first where it names none.
 fn index(error: LineError) -> usize
@@ -21,31 +17,29 @@ fn index(error: LineError) -> usize
 }
 
 impl Fields<'_> {
-    // The next K fields as numbers, or the place of the first that is wrong or missing.
-    pub fn numbers<const K: usize>(&mut self) -> Result<[u64; K], u32>
+    // The next K fields as numbers, or the first that is wrong or missing.
+    pub fn numbers<const K: usize>(&mut self) -> Result<[u64; K], Misread>
         ensures { numbers_in K (fields_left self.old) ≡ leaving result (fields_left self.new) }
     {
         let mut pieces = self.pieces;
+        // A `match` and no `map_err`: that the place fits is known of this error, and not of each that a closure may get.
         match numbers::<K>(&mut pieces) {
             Ok(ns) => {
                 self.pieces = pieces;
                 self.place += K as u32;
                 Ok(ns)
             }
-            Err(error) => Err(self.place + index(error) as u32),
+            Err(error) => Err(Misread::Field(self.place + index(error) as u32)),
         }
     }
 
-    // The next field as a letter, or its place.
-    pub fn letter(&mut self) -> Result<char, u32>
+    // The next field as a letter.
+    pub fn letter(&mut self) -> Result<char, Misread>
         ensures { letter_in (fields_left self.old) ≡ leaving result (fields_left self.new) }
     {
         let mut pieces = self.pieces;
-        let Some(field) = pieces.next() else {
-            return Err(self.place);
-        };
-        let [letter] = field else {
-            return Err(self.place);
+        let Some([letter]) = pieces.next() else {
+            return Err(Misread::Field(self.place));
         };
         let letter = char::from(*letter);
         self.pieces = pieces;
@@ -54,11 +48,11 @@ impl Fields<'_> {
     }
 
     // No field may be left.
-    pub fn end(&self) -> Result<(), u32>
+    pub fn end(&self) -> Result<(), Misread>
         ensures { result ≡ none_left tt (fields_left self.now) }
     {
         if self.pieces.rest.is_some() {
-            return Err(self.place);
+            return Err(Misread::Field(self.place));
         }
         Ok(())
     }

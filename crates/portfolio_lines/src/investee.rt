@@ -5,8 +5,8 @@ ghost use Rattle.portfolio_lines.specs.Lines.{fields_in, entry_in, investee_of, 
 ghost use Rattle.portfolio_lines.specs.Text.{ReadsInvestees};
 
 use crate::counted::Fields;
-use crate::fields::{FIRST_FIELD, WHOLE_LINE};
 use crate::methods::read_method;
+use crate::misread::Misread;
 use entries::investee::InvesteeEntry;
 use entries::method::Method;
 use lines::line::MOST_BYTES;
@@ -70,7 +70,7 @@ fn entry(head: [u64; HEAD], method: Method) -> InvesteeEntry
     }
 }
 
-fn read_entry(fields: &mut Fields<'_>) -> Result<InvesteeEntry, u32>
+fn read_entry(fields: &mut Fields<'_>) -> Result<InvesteeEntry, Misread>
     ensures { held_in (entry_in (fields_left fields.old)) ≡ leaving result (fields_left fields.new) }
 {
     let head = fields.numbers::<HEAD>()?;
@@ -78,34 +78,19 @@ fn read_entry(fields: &mut Fields<'_>) -> Result<InvesteeEntry, u32>
     Ok(entry(head, method))
 }
 
-fn investee(line: &[u8]) -> Result<InvesteeEntry, u32>
-    ensures { result ≡ held_line (investee_of line.now) }
+// The investee of a line, which is given without its line feed.
+pub fn read_investee(line: &[u8]) -> Result<InvesteeEntry, Misread>
+    ensures value { result ≡ held_line (investee_of line.now) }
+    ensures lines { ReadsInvestees line.now }
 {
     if line.len() > MOST_BYTES {
-        return Err(WHOLE_LINE);
+        return Err(Misread::TooLong);
     }
     let mut fields = Fields {
         pieces: Pieces::new(line, b' '),
-        place: FIRST_FIELD,
+        place: 1,
     };
     let entry = read_entry(&mut fields)?;
     fields.end()?;
     Ok(entry)
-}
-
-// The same, with what it says of the bytes.
-fn accepted_investee(line: &[u8]) -> Result<InvesteeEntry, u32>
-    ensures value { result ≡ held_line (investee_of line.now) }
-    ensures lines { ReadsInvestees line.now }
-{
-    investee(line)
-}
-
-// The investee of a line, which is given without its line feed; or the place of the first field that is wrong, missing
-// or surplus.
-pub fn read_investee(line: &[u8]) -> Result<InvesteeEntry, u32>
-    ensures value { result ≡ held_line (investee_of line.now) }
-    ensures lines { ReadsInvestees line.now }
-{
-    accepted_investee(line)
 }

@@ -4,19 +4,20 @@ ghost use Rattle.portfolio_lines.specs.Counted.{fields_left, leaving};
 ghost use Rattle.portfolio_lines.specs.Methods.{report_in, mean_in, bill_in, terms_in, method_in, held, held_bill};
 
 use crate::counted::Fields;
+use crate::misread::Misread;
 use entries::method::{Bill, Method};
 use factors::Activity;
 use sources::economic::Economic;
 use sources::reported::Reported;
 
-fn read_report(fields: &mut Fields<'_>) -> Result<Method, u32>
+fn read_report(fields: &mut Fields<'_>) -> Result<Method, Misread>
     ensures { held (report_in (fields_left fields.old)) ≡ leaving result (fields_left fields.new) }
 {
     let [kilograms, mark] = fields.numbers::<2>()?;
     Ok(Method::Report(Reported { kilograms, mark }))
 }
 
-fn read_mean(fields: &mut Fields<'_>) -> Result<Method, u32>
+fn read_mean(fields: &mut Fields<'_>) -> Result<Method, Misread>
     ensures { held (mean_in (fields_left fields.old)) ≡ leaving result (fields_left fields.new) }
 {
     let [output, mean] = fields.numbers::<2>()?;
@@ -24,7 +25,7 @@ fn read_mean(fields: &mut Fields<'_>) -> Result<Method, u32>
 }
 
 // The terms of an energy bill, up to the first field that is wrong or missing.
-fn read_terms(fields: &mut Fields<'_>, count: u64) -> Result<Bill, u32>
+fn read_terms(fields: &mut Fields<'_>, count: u64) -> Result<Bill, Misread>
     ensures { held_bill (terms_in count (fields_left fields.old)) ≡ leaving result (fields_left fields.new) }
 {
     let mut bill = Bill::new();
@@ -35,7 +36,7 @@ fn read_terms(fields: &mut Fields<'_>, count: u64) -> Result<Bill, u32>
     Ok(bill)
 }
 
-fn read_bill(fields: &mut Fields<'_>) -> Result<Method, u32>
+fn read_bill(fields: &mut Fields<'_>) -> Result<Method, Misread>
     ensures { held (bill_in (fields_left fields.old)) ≡ leaving result (fields_left fields.new) }
 {
     let [count] = fields.numbers::<1>()?;
@@ -44,7 +45,7 @@ fn read_bill(fields: &mut Fields<'_>) -> Result<Method, u32>
 }
 
 // The method, by its letter.
-pub fn read_method(fields: &mut Fields<'_>) -> Result<Method, u32>
+pub fn read_method(fields: &mut Fields<'_>) -> Result<Method, Misread>
     ensures { held (method_in (fields_left fields.old)) ≡ leaving result (fields_left fields.new) }
 {
     let place = fields.place;
@@ -52,6 +53,6 @@ pub fn read_method(fields: &mut Fields<'_>) -> Result<Method, u32>
         'R' => read_report(fields),
         'P' => read_bill(fields),
         'E' => read_mean(fields),
-        _ => Err(place),
+        _ => Err(Misread::Field(place)),
     }
 }

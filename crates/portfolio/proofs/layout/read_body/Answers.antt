@@ -1,36 +1,58 @@
-use Rattle.std.proofs.Common.{ℕ, List}
+use Rattle.std.proofs.Common.{Ok, length, sym, ◌∙◌, rules}
 use Rattle.std.proofs.lemmas.Result.{err_from_is_err_and}
-use Rattle.lines.specs.Fields.{pieces_left}
-use Rattle.lines.specs.declared.pieces.Pieces.{Pieces}
-use Rattle.portfolio.proofs.Walks.{stopped-first, stopped-second, stopped-third, stopped-last, body-read, body-counts}
+use Rattle.lines.specs.Pieces.{left_in}
+use Rattle.portfolio_lines.specs.Lines.{investee_of, key_of, balance_of}
+use Rattle.portfolio.specs.Cursors.{lines_in, all_in}
+use Rattle.portfolio.specs.Layout.{postings}
+use Rattle.portfolio.proofs.Walks.{entry-passes, value-passes, stopped-first, stopped-second, stopped-third, stopped-last, body-read, body-counts}
 use Rattle.portfolio.proofs.layout.read_body.Goals as goal
 
-abbrev pieces_of : Pieces → List (List ℕ)
-pieces_of p = pieces_left p.separator p.rest
-
-pub returns-in_err-check_lines : goal.returns-in_err-check_lines
-returns-in_err-check_lines c =
+pub returns-in_err-investees-clause-value : goal.returns-in_err-investees-clause-value
+returns-in_err-investees-clause-value c =
     let p = err_from_is_err_and c.from_residual.result c.from_residual.ensures.1 in
-    rw (p.1, p.2) (record { value = stopped-first c.args.head (pieces_of c.args.lines) c.in_err-check_lines.field-0.0 c.in_err-check_lines.ensures; counts = tt })
+    rw (p.1, p.2) (stopped-first c.args.head (left_in c.args.lines) _ (c.in_err-investees.ensures.passed _ (λ line r gave. entry-passes (investee_of line.now) r (search rules))))
 
-pub returns-in_err-check_lines-2 : goal.returns-in_err-check_lines-2
-returns-in_err-check_lines-2 c =
-    let p = err_from_is_err_and c.from_residual-in_err-check_lines-2.result c.from_residual-in_err-check_lines-2.ensures.1 in
-    rw (p.1, p.2) (record { value = stopped-second c.args.head (pieces_of c.args.lines) (pieces_of c.check_lines.new.lines) c.in_ok-check_lines.ensures c.in_err-check_lines-2.field-0.0 c.in_err-check_lines-2.ensures; counts = tt })
+pub returns-in_err-keys-clause-value : goal.returns-in_err-keys-clause-value
+returns-in_err-keys-clause-value c =
+    let p = err_from_is_err_and c.from_residual-in_err-keys.result c.from_residual-in_err-keys.ensures.1 in
+    rw (p.1, p.2) (stopped-second c.args.head (left_in c.args.lines) (left_in c.section.new.self.lines) c.section.new.self.number (c.in_ok-investees.ensures.passed _ (λ line r gave. entry-passes (investee_of line.now) r (search rules))) c.in_ok-investees.ensures.number _ (c.in_err-keys.ensures.passed _ (λ line r gave. value-passes (key_of line.now) r (search rules))))
 
-pub returns-in_err-check_lines-3 : goal.returns-in_err-check_lines-3
-returns-in_err-check_lines-3 c =
-    let p = err_from_is_err_and c.from_residual-in_err-check_lines-3.result c.from_residual-in_err-check_lines-3.ensures.1 in
-    rw (p.1, p.2) (record { value = stopped-third c.args.head (pieces_of c.args.lines) (pieces_of c.check_lines.new.lines) c.in_ok-check_lines.ensures (pieces_of c.check_lines-2.new.lines) c.in_ok-check_lines-2.ensures c.in_err-check_lines-3.field-0.0 c.in_err-check_lines-3.ensures; counts = tt })
+pub returns-in_err-balances-clause-value : goal.returns-in_err-balances-clause-value
+returns-in_err-balances-clause-value c =
+    let p = err_from_is_err_and c.from_residual-in_err-balances.result c.from_residual-in_err-balances.ensures.1 in
+    rw (p.1, p.2) (stopped-third c.args.head (left_in c.args.lines) (left_in c.section.new.self.lines) c.section.new.self.number (c.in_ok-investees.ensures.passed _ (λ line r gave. entry-passes (investee_of line.now) r (search rules))) c.in_ok-investees.ensures.number
+    (left_in c.section-2.new.self.lines) c.section-2.new.self.number (c.in_ok-keys.ensures.passed _ (λ line r gave. value-passes (key_of line.now) r (search rules))) c.in_ok-keys.ensures.number _ (c.in_err-balances.ensures.passed _ (λ line r gave. value-passes (balance_of line.now) r (search rules))))
 
-pub returns-in_err-check_end : goal.returns-in_err-check_end
-returns-in_err-check_end c =
-    let p = err_from_is_err_and c.from_residual-in_err-check_end.result c.from_residual-in_err-check_end.ensures.1 in
-    rw (p.1, p.2) (record { value = stopped-last c.args.head (pieces_of c.args.lines) (pieces_of c.check_lines.new.lines) c.in_ok-check_lines.ensures (pieces_of c.check_lines-2.new.lines) c.in_ok-check_lines-2.ensures (pieces_of c.check_lines-3.new.lines) c.in_ok-check_lines-3.ensures c.in_err-check_end.field-0.0 c.in_err-check_end.ensures; counts = tt })
+pub returns-in_err-end-clause-value : goal.returns-in_err-end-clause-value
+returns-in_err-end-clause-value c =
+    let p = err_from_is_err_and c.from_residual-in_err-end.result c.from_residual-in_err-end.ensures.1 in
+    rw (p.1, p.2) (stopped-last c.args.head (left_in c.args.lines) (left_in c.section.new.self.lines) c.section.new.self.number (c.in_ok-investees.ensures.passed _ (λ line r gave. entry-passes (investee_of line.now) r (search rules))) c.in_ok-investees.ensures.number
+    (left_in c.section-2.new.self.lines) c.section-2.new.self.number (c.in_ok-keys.ensures.passed _ (λ line r gave. value-passes (key_of line.now) r (search rules))) c.in_ok-keys.ensures.number
+    (left_in c.section-3.new.self.lines) c.section-3.new.self.number (c.in_ok-balances.ensures.passed _ (λ line r gave. value-passes (balance_of line.now) r (search rules))) c.in_ok-balances.ensures.number _ c.in_err-end.ensures)
 
-pub returns : goal.returns
-returns c =
-    record {
-      value = body-read c.args.head (pieces_of c.args.lines) (pieces_of c.check_lines.new.lines) c.in_ok-check_lines.ensures (pieces_of c.check_lines-2.new.lines) c.in_ok-check_lines-2.ensures (pieces_of c.check_lines-3.new.lines) c.in_ok-check_lines-3.ensures c.in_ok-check_end.field-0 c.in_ok-check_end.ensures;
-      counts = body-counts c.args.head (pieces_of c.args.lines) (pieces_of c.check_lines.new.lines) c.in_ok-check_lines.ensures (pieces_of c.check_lines-2.new.lines) c.in_ok-check_lines-2.ensures (pieces_of c.check_lines-3.new.lines) c.in_ok-check_lines-3.ensures;
-    }
+-- the sections as they were found
+pub returns-clause-value : goal.returns-clause-value
+returns-clause-value c =
+    let i = c.in_ok-investees.ensures.section in
+    let k = c.in_ok-keys.ensures.section in
+    let b = c.in_ok-balances.ensures.section in
+    (λ t. Ok (record {
+      guide = c.args.head.guide;
+      investees = all_in investee_of (lines_in (i.0 t) (left_in (i.1 t)));
+      posts = postings (all_in key_of (lines_in (k.0 t) (left_in (k.1 t)))) (all_in balance_of (lines_in (b.0 t) (left_in (b.1 t))));
+    }))
+    ∙ body-read c.args.head (left_in c.args.lines) (left_in c.section.new.self.lines) c.section.new.self.number (c.in_ok-investees.ensures.passed _ (λ line r gave. entry-passes (investee_of line.now) r (search rules))) c.in_ok-investees.ensures.number
+    (left_in c.section-2.new.self.lines) c.section-2.new.self.number (c.in_ok-keys.ensures.passed _ (λ line r gave. value-passes (key_of line.now) r (search rules))) c.in_ok-keys.ensures.number
+    (left_in c.section-3.new.self.lines) c.section-3.new.self.number (c.in_ok-balances.ensures.passed _ (λ line r gave. value-passes (balance_of line.now) r (search rules))) c.in_ok-balances.ensures.number c.in_ok-end.field-0 c.in_ok-end.ensures
+
+pub returns-clause-counts : goal.returns-clause-counts
+returns-clause-counts c =
+    let i = c.in_ok-investees.ensures.section in
+    let k = c.in_ok-keys.ensures.section in
+    let b = c.in_ok-balances.ensures.section in
+    let counts = body-counts c.args.head (left_in c.args.lines) (left_in c.section.new.self.lines) c.section.new.self.number (c.in_ok-investees.ensures.passed _ (λ line r gave. entry-passes (investee_of line.now) r (search rules))) c.in_ok-investees.ensures.number
+    (left_in c.section-2.new.self.lines) c.section-2.new.self.number (c.in_ok-keys.ensures.passed _ (λ line r gave. value-passes (key_of line.now) r (search rules))) c.in_ok-keys.ensures.number
+    (left_in c.section-3.new.self.lines) c.section-3.new.self.number (c.in_ok-balances.ensures.passed _ (λ line r gave. value-passes (balance_of line.now) r (search rules))) c.in_ok-balances.ensures.number in (
+      i.0 ∙ counts.0 ∙ sym (λ t. length (all_in investee_of (lines_in (i.0 t) (left_in (i.1 t))))),
+      k.0 ∙ counts.1 ∙ sym (λ t. length (postings (all_in key_of (lines_in (k.0 t) (left_in (k.1 t)))) (all_in balance_of (lines_in (b.0 t) (left_in (b.1 t)))))),
+    )

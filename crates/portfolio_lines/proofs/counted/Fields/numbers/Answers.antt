@@ -1,4 +1,5 @@
 use Rattle.std.proofs.Common.{◌+◌, Err, sym, ap, ◌∙◌, arith}
+use Rattle.portfolio_lines.specs.declared.misread.Misread.TheVariants.{Field}
 use Rattle.portfolio_lines.proofs.Counts.{numbers-count, numbers-wrong, numbers-read, numbers-refused}
 use Rattle.portfolio_lines.proofs.counted.Fields.numbers.Goals as goal
 
@@ -23,4 +24,4 @@ returns-in-Ok g c = numbers-read g.row.K c.args.self.now.place _ _ c.in-Ok.ensur
 
 pub returns-in-Err : goal.returns-in-Err
 returns-in-Err g c =
-    numbers-refused g.row.K c.args.self.now.place _ _ c.in-Err.ensures ∙ ap (λ i. Err (c.args.self.now.place + i)) (sym c.index.ensures)
+    numbers-refused g.row.K c.args.self.now.place _ _ c.in-Err.ensures ∙ ap (λ i. Err (Field (c.args.self.now.place + i))) (sym c.index.ensures)

@@ -1,0 +1,23 @@
+// Why a line is not read.
+ghost use Rattle.std.specs.Prelude.{◌≡◌};
+ghost use Rattle.portfolio_lines.specs.Misreads.{place_of};
+
+#[derive(Clone, Copy, Debug, PartialEq, Eq)]
+pub enum Misread {
+    // It has too many bytes.
+    TooLong,
+    // The first field, from 1, that is wrong, missing or surplus.
+    Field(u32),
+}
+
+impl Misread {
+    // The field, from 1; 0 stands for the line as a whole.
+    pub fn place(self) -> u32
+        ensures { result ≡ place_of self }
+    {
+        match self {
+            Misread::TooLong => 0,
+            Misread::Field(place) => place,
+        }
+    }
+}
