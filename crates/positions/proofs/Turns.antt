@@ -1,7 +1,7 @@
 -- A walk over the rows of a table that notes the turns of all branches on one investee.
 use Rattle.std.proofs.Common.{◌≡◌, ℕ, ◌+◌, ◌-◌, ◌*◌, ◌^◌, ◌<◌, ◌≤◌, Bool, true, false, cond, ◌||◌, eqb, ltb, ◌⊎◌, List, map, reverse, length, get_or, drop, set, replicate, Some, None, Option, unwrap_or, sym, refl, ap, ◌∙◌, ap₂, inl, inr, arith, length-set}
 use lib.ListN.{get_or-replicate}
-use Rattle.std.proofs.lemmas.List.{same_lists, get_or_default, length-map, get_or-map, get_or-set_same, get_or-set_other}
+use Rattle.std.proofs.lemmas.List.{at_drop_all, same_lists, get_or_default, length-map, get_or-map, get_or-set_same, get_or-set_other}
 use Rattle.std.proofs.lemmas.Bool.{eq-eqb, ne_eqb, cases_eq, cond-true, cond-false, ltb-false, le-ltb}
 use Rattle.rules.specs.Months.{months}
 use Rattle.rules.specs.declared.kinds.Kind.{Kind}
@@ -14,7 +14,7 @@ use Rattle.positions.specs.Rows.{plain_position, plain_positions}
 use Rattle.positions.specs.declared.PositionRow.{PositionRow}
 use Rattle.positions.specs.declared.lending.Turn.{Turn}
 use Rattle.positions.proofs.BranchOrder.{branches-long, branch-at}
-use Rattle.positions.proofs.Walks.{rows_on, row_on, row-off, rows_none}
+use Rattle.positions.proofs.Walks.{rows_on, on-view, lent_in, next_lent}
 
 abbrev or_else : Option Turn → Option Turn → Option Turn
 or_else (Some t) o = Some t
@@ -28,16 +28,16 @@ or-first : (o : Option Turn) (t : Turn) → or_else o (Some t) ≡ Some (unwrap_
 or-first None t = refl
 or-first (Some u) t = refl
 
--- of the first k rows the turns are noted, with exposures s so far; the turns of the branches without one are among those that are left
-pub record TurnsSofar (kind : Kind) (id : ℕ) (rows : List PositionRow) (k s : ℕ) (turns : List (Option Turn)) : Type 0 where
+-- of the first k rows on an investee the turns are noted, with exposures s so far; the turns of the branches without one are among those that are left
+pub record TurnsSofar (kind : Kind) (on : List PositionRow) (k s : ℕ) (turns : List (Option Turn)) : Type 0 where
   pub long : length turns ≡ branch_count
-  pub found : (n : ℕ) → n < branch_count → or_else (get_or turns n None) (turn_from s (map (lent_by kind) (rows_on id (drop k rows))) (n + 1)) ≡ turn_from 0 (map (lent_by kind) (rows_on id rows)) (n + 1)
+  pub found : (n : ℕ) → n < branch_count → or_else (get_or turns n None) (turn_from s (lent_in kind (drop k on)) (n + 1)) ≡ turn_from 0 (lent_in kind on) (n + 1)
   pub bound : s ≤ months * 2 ^ 32 * k
 
-pub turns-first : (kind : Kind) (id : ℕ) (rows : List PositionRow) (turns : List (Option Turn)) → turns ≡ replicate branch_count None → TurnsSofar kind id rows 0 0 turns
-turns-first kind id rows turns is = record {
-  long = ap length is;
-  found = λ n h. ap (λ o. or_else o (turn_from 0 (map (lent_by kind) (rows_on id rows)) (n + 1))) (ap (λ l. get_or l n None) is ∙ get_or-replicate branch_count n None None h);
+pub turns-first : (kind : Kind) (on : List PositionRow) → TurnsSofar kind on 0 0 (replicate branch_count None)
+turns-first kind on = record {
+  long = refl;
+  found = λ n h. ap (λ o. or_else o (turn_from 0 (lent_in kind on) (n + 1))) (get_or-replicate branch_count n None None h);
   bound = omega arith;
 }
 
@@ -68,36 +68,25 @@ noted_other b n turn turns off = by (branch_out_of_range b) refl
     by true e = refl
     by false e = get_or-set_other turns (b - 1) n _ None (λ s. off (omega (arith, ltb-false b 1 (or-false (ltb b 1) (ltb branch_count b) e))))
 
-module _ (kind : Kind) (id : ℕ) (rows : List PositionRow) (k : ℕ) (d : PositionRow) (h : k < length rows) (s : ℕ) (turns : List (Option Turn)) (sofar : TurnsSofar kind id rows k s turns) where
-  abbrev row : PositionRow
-  row = get_or rows k d
-
+module _ (kind : Kind) (on : List PositionRow) (k : ℕ) (row : PositionRow) (h : k < length on) (at : row ≡ get_or on k row) (s : ℕ) (turns : List (Option Turn)) (sofar : TurnsSofar kind on k s turns) where
   abbrev left : List Lent
-  left = map (lent_by kind) (rows_on id (drop (k + 1) rows))
+  left = lent_in kind (drop (k + 1) on)
 
-  pub turns-off : (row.id ≡ id → ⊥) → TurnsSofar kind id rows (k + 1) s turns
-  turns-off off = record {
-    long = sofar.long;
-    found = λ n l. ap (λ qs. or_else (get_or turns n None) (turn_from s (map (lent_by kind) qs) (n + 1))) (sym (row-off id rows k d h off)) ∙ sofar.found n l;
-    bound = omega (arith, sofar.bound);
-  }
-
-  pub turns-on : row.id ≡ id → (e : ℕ) → e ≡ exposure_of kind (plain_position row) → e ≤ months * 2 ^ 32 → (now : List (Option Turn)) → now ≡ noted row.branch (record { before = s; exposure = e }) turns → TurnsSofar kind id rows (k + 1) (s + e) now
+  pub turns-on : (e : ℕ) → e ≡ exposure_of kind (plain_position row) → e ≤ months * 2 ^ 32 → (now : List (Option Turn)) → now ≡ noted row.branch (record { before = s; exposure = e }) turns → TurnsSofar kind on (k + 1) (s + e) now
   unfolding turn_from
-  turns-on on e is-e e-bound now is-now = record {
+  turns-on e is-e e-bound now is-now = record {
     long = ap length is-now ∙ length-noted row.branch (record { before = s; exposure = e }) turns ∙ sofar.long;
     found = λ n l. ap (λ l. or_else (get_or l n None) (turn_from (s + e) left (n + 1))) is-now ∙ by n l (cases_eq (n + 1) row.branch);
     bound = omega (arith, sofar.bound);
   }
     where
-      turn : Turn
-      turn = record { before = s; exposure = e }
-
-      split : (b : ℕ) → turn_from s (map (lent_by kind) (rows_on id (drop k rows))) b ≡ cond (eqb row.branch b) (Some (record { before = s; exposure = e })) (turn_from (s + e) left b)
-      split b = ap (λ qs. turn_from s (map (lent_by kind) qs) b) (row_on id rows k d h on) ∙ ap (λ x. cond (eqb row.branch b) (Some (record { before = s; exposure = x })) (turn_from (s + x) left b)) (sym is-e)
+      split : (b : ℕ) → turn_from s (lent_in kind (drop k on)) b ≡ cond (eqb row.branch b) (Some (record { before = s; exposure = e })) (turn_from (s + e) left b)
+      split b =
+          ap (λ ls. turn_from s ls b) (next_lent kind on k row h at)
+          ∙ ap (λ x. cond (eqb row.branch b) (Some (record { before = s; exposure = x })) (turn_from (s + x) left b)) (sym is-e)
 
       by : (n : ℕ) → n < branch_count → (n + 1 ≡ row.branch) ⊎ (n + 1 ≡ row.branch → ⊥)
-          → or_else (get_or (noted row.branch (record { before = s; exposure = e }) turns) n None) (turn_from (s + e) left (n + 1)) ≡ turn_from 0 (map (lent_by kind) (rows_on id rows)) (n + 1)
+          → or_else (get_or (noted row.branch (record { before = s; exposure = e }) turns) n None) (turn_from (s + e) left (n + 1)) ≡ turn_from 0 (lent_in kind on) (n + 1)
       by n l (inl same) =
           ap (λ o. or_else o (turn_from (s + e) left (n + 1))) (ap (λ b. get_or (noted b (record { before = s; exposure = e }) turns) n None) (sym same) ∙ noted_here n (record { before = s; exposure = e }) turns l sofar.long)
           ∙ sym (ap (or_else (get_or turns n None)) (split (n + 1) ∙ cond-true (eqb row.branch (n + 1)) _ _ (eq-eqb row.branch (n + 1) (sym same))) ∙ or-first (get_or turns n None) (record { before = s; exposure = e }))
@@ -107,7 +96,7 @@ module _ (kind : Kind) (id : ℕ) (rows : List PositionRow) (k : ℕ) (d : Posit
           ∙ sym (ap (or_else (get_or turns n None)) (split (n + 1) ∙ cond-false (eqb row.branch (n + 1)) _ _ (ne_eqb row.branch (n + 1) (λ z. other (sym z)))))
           ∙ sofar.found n l
 
-pub turns-all : (kind : Kind) (id : ℕ) (rows : List PositionRow) (k s : ℕ) (turns : List (Option Turn)) → length rows ≤ k → TurnsSofar kind id rows k s turns → turns ≡ turns_of kind id (plain_positions rows)
+pub turns-all : (kind : Kind) (id : ℕ) (rows : List PositionRow) (k s : ℕ) (turns : List (Option Turn)) → k ≡ length (rows_on id rows) → TurnsSofar kind (rows_on id rows) k s turns → turns ≡ turns_of kind id (plain_positions rows)
 unfolding turn_from
 turns-all kind id rows k s turns h sofar =
     same_lists turns (turns_of kind id (plain_positions rows))
@@ -117,7 +106,8 @@ turns-all kind id rows k s turns h sofar =
     let f = turn_from 0 (lent_on kind id (plain_positions rows)) in
     get_or_default turns n d None l
     ∙ or-none (get_or turns n None)
-    ∙ ap (λ qs. or_else (get_or turns n None) (turn_from s (map (lent_by kind) qs) (n + 1))) (sym (rows_none id rows k h))
+    ∙ ap (λ ls. or_else (get_or turns n None) (turn_from s ls (n + 1))) (sym (at_drop_all (lent_in kind) (rows_on id rows) k (omega arith)))
     ∙ sofar.found n low
+    ∙ ap (λ qs. turn_from 0 (map (lent_by kind) qs) (n + 1)) (on-view id rows)
     ∙ ap f (branch-at n low)
     ∙ sym (get_or-map f (reverse branches) n 0 d (omega (arith, branches-long))))

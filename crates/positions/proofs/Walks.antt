@@ -1,160 +1,123 @@
--- A walk over the rows of a table: what those on one investee add up to.
-use Rattle.std.proofs.Common.{◌≡◌, ℕ, ◌+◌, ◌*◌, ◌^◌, ◌<◌, ◌≤◌, true, false, eqb, List, [], ◌∷◌, map, length, get_or, drop, is_some, sum_by, sym, refl, ap, ◌∙◌, arith}
-use Rattle.std.proofs.lemmas.List.{at_drop_more, at_drop_all}
-use Rattle.std.proofs.lemmas.List.Sums.{sum_by-cons}
+-- A walk over the rows on one investee: what they add up to, and the turn of a branch among them.
+use Rattle.std.proofs.Common.{◌≡◌, ℕ, ◌+◌, ◌*◌, ◌^◌, ◌<◌, ◌≤◌, eqb, List, [], ◌∷◌, map, filter, length, get_or, take, drop, sum_by, sym, ap, ◌∙◌, arith, take_all}
+use Rattle.std.proofs.lemmas.List.{at_drop_more, at_drop_all, length-map}
 use Rattle.std.proofs.lemmas.Bool.{eq-eqb, ne_eqb, cond-true, cond-false}
 use Rattle.rules.specs.Months.{months}
 use Rattle.rules.specs.declared.kinds.Kind.{Kind}
 use Rattle.plain.specs.Exposures.{closing_of, exposure_of, positions_on, lent_by}
-use Rattle.plain.specs.Lists.{first_of}
 use Rattle.plain.specs.Parts.{Lent, exposures, exposure_at, exposure_before}
-use Rattle.plain.specs.PlainBook.{PlainPosition}
-use Rattle.positions.specs.Lending.{lending_of, turn_of, branch_in}
+use Rattle.positions.specs.Lending.{lending_of, turn_of}
 use Rattle.positions.specs.Rows.{plain_position, plain_positions}
 use Rattle.positions.specs.declared.PositionRow.{PositionRow}
+use Rattle.positions.specs.declared.lending.Lending.{Lending}
+use Rattle.positions.specs.declared.lending.Turn.{Turn}
+use Rattle.positions.proofs.Sums.{sum-next, sum_view, exposures_summed}
+use Rattle.positions.proofs.Views.{filter-view}
 
--- those of the rows that are on the investee of an id
-abbrev pub rows_on : ℕ → List PositionRow → List PlainPosition
-rows_on id rows = positions_on id (plain_positions rows)
+-- the rows on the investee of an id
+abbrev pub rows_on : ℕ → List PositionRow → List PositionRow
+rows_on id rows = filter (λ row. eqb row.id id) rows
 
-module _ (id : ℕ) (rows : List PositionRow) (k : ℕ) (d : PositionRow) (h : k < length rows) where
-  pub row_on : (get_or rows k d).id ≡ id → rows_on id (drop k rows) ≡ plain_position (get_or rows k d) ∷ rows_on id (drop (k + 1) rows)
-  row_on e = at_drop_more (rows_on id) rows k d h ∙ cond-true (eqb (get_or rows k d).id id) _ _ (eq-eqb (get_or rows k d).id id e)
+pub on-view : (id : ℕ) (rows : List PositionRow) → plain_positions (rows_on id rows) ≡ positions_on id (plain_positions rows)
+on-view id rows = filter-view plain_position (λ q. eqb q.id id) rows
 
-  pub row-off : ((get_or rows k d).id ≡ id → ⊥) → rows_on id (drop k rows) ≡ rows_on id (drop (k + 1) rows)
-  row-off e = at_drop_more (rows_on id) rows k d h ∙ cond-false (eqb (get_or rows k d).id id) _ _ (ne_eqb (get_or rows k d).id id e)
+abbrev row_exposure : Kind → PositionRow → ℕ
+row_exposure kind row = exposure_of kind (plain_position row)
 
-pub rows_none : (id : ℕ) (rows : List PositionRow) (k : ℕ) → length rows ≤ k → rows_on id (drop k rows) ≡ []
-rows_none id rows k h = at_drop_all (rows_on id) rows k h
+abbrev row_closing : PositionRow → ℕ
+row_closing row = closing_of (plain_position row)
+
+-- what the rows lent
+abbrev pub lent_in : Kind → List PositionRow → List Lent
+lent_in kind on = map (lent_by kind) (plain_positions on)
+
+pub next_lent : (kind : Kind) (on : List PositionRow) (k : ℕ) (row : PositionRow) → k < length on → row ≡ get_or on k row → lent_in kind (drop k on) ≡ lent_by kind (plain_position row) ∷ lent_in kind (drop (k + 1) on)
+next_lent kind on k row h at = at_drop_more (lent_in kind) on k row h ∙ ap (λ r. lent_by kind (plain_position r) ∷ lent_in kind (drop (k + 1) on)) (sym at)
+
+pub exposures-rows : (kind : Kind) (on : List PositionRow) → exposures (lent_in kind on) ≡ sum_by (λ row. exposure_of kind (plain_position row)) on
+exposures-rows kind on = exposures_summed kind (plain_positions on) ∙ sum_view plain_position (exposure_of kind) on
 
 -- ---- all branches together
 
--- so far n positions, exposures s and closing balances c, of the first k rows; those on the investee that are left make up the rest
-pub record LentSofar (kind : Kind) (id : ℕ) (rows : List PositionRow) (k n s c : ℕ) : Type 0 where
-  pub positions : n + length (rows_on id (drop k rows)) ≡ length (rows_on id rows)
-  pub exposure : s + exposures (map (lent_by kind) (rows_on id (drop k rows))) ≡ exposures (map (lent_by kind) (rows_on id rows))
-  pub closing : c + sum_by closing_of (rows_on id (drop k rows)) ≡ sum_by closing_of (rows_on id rows)
-  pub few : n ≤ k
-  pub exposure-bound : s ≤ months * 2 ^ 32 * k
-  pub closing-bound : c ≤ 2 ^ 32 * k
+-- the first k rows are added up
+pub record LentSofar (kind : Kind) (on : List PositionRow) (k : ℕ) (sofar : Lending) : Type 0 where
+  pub positions : sofar.positions ≡ k
+  pub exposure : sofar.exposure ≡ sum_by (row_exposure kind) (take k on)
+  pub closing : sofar.closing ≡ sum_by row_closing (take k on)
+  pub exposure-bound : sofar.exposure ≤ months * 2 ^ 32 * k
+  pub closing-bound : sofar.closing ≤ 2 ^ 32 * k
 
-pub lent-first : (kind : Kind) (id : ℕ) (rows : List PositionRow) → LentSofar kind id rows 0 0 0 0
-lent-first kind id rows = record { positions = omega arith; exposure = omega arith; closing = omega arith; few = omega arith; exposure-bound = omega arith; closing-bound = omega arith }
+pub lent-more : (kind : Kind) (on : List PositionRow) (k : ℕ) (row : PositionRow) (sofar : Lending) → k < length on → row ≡ get_or on k row → LentSofar kind on k sofar
+    → (e c : ℕ) → e ≡ row_exposure kind row → e ≤ months * 2 ^ 32 → c ≡ row_closing row → c ≤ 2 ^ 32
+    → LentSofar kind on (k + 1) (record { positions = sofar.positions + 1; exposure = sofar.exposure + e; closing = sofar.closing + c })
+lent-more kind on k row sofar h at inv e c is-e e-bound is-c c-bound = record {
+  positions = omega (arith, inv.positions);
+  exposure = sum-next (row_exposure kind) on k row sofar.exposure e h (is-e ∙ ap (row_exposure kind) at) inv.exposure;
+  closing = sum-next row_closing on k row sofar.closing c h (is-c ∙ ap row_closing at) inv.closing;
+  exposure-bound = omega (arith, inv.exposure-bound);
+  closing-bound = omega (arith, inv.closing-bound);
+}
 
-module _ (kind : Kind) (id : ℕ) (rows : List PositionRow) (k : ℕ) (d : PositionRow) (h : k < length rows) (n s c : ℕ) (sofar : LentSofar kind id rows k n s c) where
-  pub lent-more : (get_or rows k d).id ≡ id → (e v : ℕ) → e ≡ exposure_of kind (plain_position (get_or rows k d)) → e ≤ months * 2 ^ 32 → v ≡ closing_of (plain_position (get_or rows k d)) → v ≤ 2 ^ 32 → LentSofar kind id rows (k + 1) (n + 1) (s + e) (c + v)
-  unfolding exposures
-  lent-more on e v is-e e-bound is-v v-bound =
-      let q = plain_position (get_or rows k d) in
-      let rest = rows_on id (drop (k + 1) rows) in
-      let split = row_on id rows k d h on in
-      let lengths : length (rows_on id (drop k rows)) ≡ length (q ∷ rest) = ap length split in
-      let lents : exposures (map (lent_by kind) (rows_on id (drop k rows))) ≡ exposure_of kind q + exposures (map (lent_by kind) rest) = ap (λ qs. exposures (map (lent_by kind) qs)) split in
-      let closings : sum_by closing_of (rows_on id (drop k rows)) ≡ closing_of q + sum_by closing_of rest = ap (sum_by closing_of) split ∙ sum_by-cons closing_of q rest in
-      record {
-        positions = omega (arith, sofar.positions);
-        exposure = omega (arith, sofar.exposure);
-        closing = omega (arith, sofar.closing);
-        few = omega (arith, sofar.few);
-        exposure-bound = omega (arith, sofar.exposure-bound);
-        closing-bound = omega (arith, sofar.closing-bound);
-      }
-
-  pub lent_same : ((get_or rows k d).id ≡ id → ⊥) → LentSofar kind id rows (k + 1) n s c
-  lent_same off =
-      let split = row-off id rows k d h off in
-      record {
-        positions = ap (λ qs. n + length qs) (sym split) ∙ sofar.positions;
-        exposure = ap (λ qs. s + exposures (map (lent_by kind) qs)) (sym split) ∙ sofar.exposure;
-        closing = ap (λ qs. c + sum_by closing_of qs) (sym split) ∙ sofar.closing;
-        few = omega (arith, sofar.few);
-        exposure-bound = omega (arith, sofar.exposure-bound);
-        closing-bound = omega (arith, sofar.closing-bound);
-      }
-
-pub lent-all : (kind : Kind) (id : ℕ) (rows : List PositionRow) (k n s c : ℕ) → length rows ≤ k → LentSofar kind id rows k n s c → record { positions = n; exposure = s; closing = c } ≡ lending_of kind id (plain_positions rows)
-unfolding exposures
-lent-all kind id rows k n s c h sofar =
-    let none = rows_none id rows k h in
-    let a : n ≡ length (rows_on id rows) = omega (arith, sofar.positions, ap length none) in
-    let b : s ≡ exposures (map (lent_by kind) (rows_on id rows)) = omega (arith, sofar.exposure, ap (λ qs. exposures (map (lent_by kind) qs)) none) in
-    let e : c ≡ sum_by closing_of (rows_on id rows) = omega (arith, sofar.closing, ap (sum_by closing_of) none) in
-    λ i. record { positions = a i; exposure = b i; closing = e i }
+pub lent-all : (kind : Kind) (id : ℕ) (rows : List PositionRow) (k : ℕ) (sofar : Lending) → k ≡ length (rows_on id rows) → LentSofar kind (rows_on id rows) k sofar → sofar ≡ lending_of kind id (plain_positions rows)
+lent-all kind id rows k sofar h inv =
+    let on = rows_on id rows in
+    let view = on-view id rows in
+    let all : take k on ≡ on = take_all k on (omega arith) in
+    let a : sofar.positions ≡ length (positions_on id (plain_positions rows)) = inv.positions ∙ h ∙ sym (length-map on plain_position) ∙ ap length view in
+    let b : sofar.exposure ≡ exposures (map (lent_by kind) (positions_on id (plain_positions rows))) =
+    inv.exposure ∙ ap (sum_by (row_exposure kind)) all ∙ sym (exposures-rows kind on) ∙ ap (λ qs. exposures (map (lent_by kind) qs)) view in
+    let c : sofar.closing ≡ sum_by closing_of (positions_on id (plain_positions rows)) =
+    inv.closing ∙ ap (sum_by row_closing) all ∙ sym (sum_view plain_position closing_of on) ∙ ap (sum_by closing_of) view in
+    λ i. record { positions = a i; exposure = b i; closing = c i }
 
 -- ---- the turn of one branch
 
+abbrev turn_in : Kind → ℕ → List PositionRow → Turn
+turn_in kind b on = record { before = exposure_before (lent_in kind on) b; exposure = exposure_at (lent_in kind on) b }
+
 -- the first k rows are passed, with exposures s before branch b; its turn is among those that are left
-pub record NoTurnYet (kind : Kind) (id b : ℕ) (rows : List PositionRow) (k s : ℕ) : Type 0 where
-  pub before : s + exposure_before (map (lent_by kind) (rows_on id (drop k rows))) b ≡ exposure_before (map (lent_by kind) (rows_on id rows)) b
-  pub own : exposure_at (map (lent_by kind) (rows_on id (drop k rows))) b ≡ exposure_at (map (lent_by kind) (rows_on id rows)) b
+pub record NoTurnYet (kind : Kind) (b : ℕ) (on : List PositionRow) (k s : ℕ) : Type 0 where
+  pub before : s + exposure_before (lent_in kind (drop k on)) b ≡ exposure_before (lent_in kind on) b
+  pub own : exposure_at (lent_in kind (drop k on)) b ≡ exposure_at (lent_in kind on) b
   pub bound : s ≤ months * 2 ^ 32 * k
 
-pub turn-first : (kind : Kind) (id b : ℕ) (rows : List PositionRow) → NoTurnYet kind id b rows 0 0
-turn-first kind id b rows = record { before = omega arith; own = refl; bound = omega arith }
-
-module _ (kind : Kind) (id b : ℕ) (rows : List PositionRow) (k : ℕ) (d : PositionRow) (h : k < length rows) (s : ℕ) (yet : NoTurnYet kind id b rows k s) where
-  abbrev row : PositionRow
-  row = get_or rows k d
-
+module _ (kind : Kind) (b : ℕ) (on : List PositionRow) (k : ℕ) (row : PositionRow) (h : k < length on) (at : row ≡ get_or on k row) (s : ℕ) (yet : NoTurnYet kind b on k s) where
   abbrev after : List Lent
-  after = map (lent_by kind) (rows_on id (drop (k + 1) rows))
+  after = lent_in kind (drop (k + 1) on)
 
-  pub turn-off : (row.id ≡ id → ⊥) → NoTurnYet kind id b rows (k + 1) s
-  turn-off off =
-      let split = row-off id rows k d h off in
-      record {
-        before = ap (λ qs. s + exposure_before (map (lent_by kind) qs) b) (sym split) ∙ yet.before;
-        own = ap (λ qs. exposure_at (map (lent_by kind) qs) b) (sym split) ∙ yet.own;
-        bound = omega (arith, yet.bound);
-      }
+  split : lent_in kind (drop k on) ≡ lent_by kind (plain_position row) ∷ after
+  split = next_lent kind on k row h at
 
-  pub turn-past : row.id ≡ id → (row.branch ≡ b → ⊥) → (e : ℕ) → e ≡ exposure_of kind (plain_position row) → e ≤ months * 2 ^ 32 → NoTurnYet kind id b rows (k + 1) (s + e)
+  pub turn-past : (row.branch ≡ b → ⊥) → (e : ℕ) → e ≡ exposure_of kind (plain_position row) → e ≤ months * 2 ^ 32 → NoTurnYet kind b on (k + 1) (s + e)
   unfolding exposure_before exposure_at
-  turn-past on other e is-e e-bound =
-      let split = row_on id rows k d h on in
+  turn-past other e is-e e-bound =
       let test = ne_eqb row.branch b other in
-      let befores : exposure_before (map (lent_by kind) (rows_on id (drop k rows))) b ≡ exposure_of kind (plain_position row) + exposure_before after b =
-      ap (λ qs. exposure_before (map (lent_by kind) qs) b) split ∙ cond-false (eqb row.branch b) _ _ test in
-      let owns : exposure_at (map (lent_by kind) (rows_on id (drop k rows))) b ≡ exposure_at after b =
-      ap (λ qs. exposure_at (map (lent_by kind) qs) b) split ∙ cond-false (eqb row.branch b) _ _ test in
+      let befores : exposure_before (lent_in kind (drop k on)) b ≡ exposure_of kind (plain_position row) + exposure_before after b =
+      ap (λ ls. exposure_before ls b) split ∙ cond-false (eqb row.branch b) _ _ test in
+      let owns : exposure_at (lent_in kind (drop k on)) b ≡ exposure_at after b = ap (λ ls. exposure_at ls b) split ∙ cond-false (eqb row.branch b) _ _ test in
       record { before = omega (arith, yet.before); own = sym owns ∙ yet.own; bound = omega (arith, yet.bound) }
 
-  pub turn-here : row.id ≡ id → row.branch ≡ b → (e : ℕ) → e ≡ exposure_of kind (plain_position row) → record { before = s; exposure = e } ≡ turn_of kind id b (plain_positions rows)
+  -- the turn of this row's branch
+  pub turn-here : row.branch ≡ b → (e : ℕ) → e ≡ exposure_of kind (plain_position row) → ◌≡◌ {A = Turn} (record { before = s; exposure = e }) (turn_in kind b on)
   unfolding exposure_before exposure_at
-  turn-here on same e is-e =
-      let split = row_on id rows k d h on in
+  turn-here same e is-e =
       let test = eq-eqb row.branch b same in
-      let befores : exposure_before (map (lent_by kind) (rows_on id (drop k rows))) b ≡ 0 =
-      ap (λ qs. exposure_before (map (lent_by kind) qs) b) split ∙ cond-true (eqb row.branch b) _ _ test in
-      let owns : exposure_at (map (lent_by kind) (rows_on id (drop k rows))) b ≡ exposure_of kind (plain_position row) =
-      ap (λ qs. exposure_at (map (lent_by kind) qs) b) split ∙ cond-true (eqb row.branch b) _ _ test in
-      let p : s ≡ exposure_before (map (lent_by kind) (rows_on id rows)) b = omega (arith, yet.before) in
-      let q : e ≡ exposure_at (map (lent_by kind) (rows_on id rows)) b = is-e ∙ sym owns ∙ yet.own in
+      let befores : exposure_before (lent_in kind (drop k on)) b ≡ 0 = ap (λ ls. exposure_before ls b) split ∙ cond-true (eqb row.branch b) _ _ test in
+      let owns : exposure_at (lent_in kind (drop k on)) b ≡ exposure_of kind (plain_position row) = ap (λ ls. exposure_at ls b) split ∙ cond-true (eqb row.branch b) _ _ test in
+      let p : s ≡ exposure_before (lent_in kind on) b = omega (arith, yet.before) in
+      let q : e ≡ exposure_at (lent_in kind on) b = is-e ∙ sym owns ∙ yet.own in
       λ i. record { before = p i; exposure = q i }
 
-pub turn-never : (kind : Kind) (id b : ℕ) (rows : List PositionRow) (k s : ℕ) → length rows ≤ k → NoTurnYet kind id b rows k s → record { before = s; exposure = 0 } ≡ turn_of kind id b (plain_positions rows)
+pub turn-never : (kind : Kind) (b : ℕ) (on : List PositionRow) (k s : ℕ) → k ≡ length on → NoTurnYet kind b on k s → ◌≡◌ {A = Turn} (record { before = s; exposure = 0 }) (turn_in kind b on)
 unfolding exposure_before exposure_at
-turn-never kind id b rows k s h yet =
-    let none = rows_none id rows k h in
-    let p : s ≡ exposure_before (map (lent_by kind) (rows_on id rows)) b = omega (arith, yet.before, ap (λ qs. exposure_before (map (lent_by kind) qs) b) none) in
-    let q : 0 ≡ exposure_at (map (lent_by kind) (rows_on id rows)) b = sym (ap (λ qs. exposure_at (map (lent_by kind) qs) b) none) ∙ yet.own in
+turn-never kind b on k s h yet =
+    let none : lent_in kind (drop k on) ≡ [] = at_drop_all (lent_in kind) on k (omega arith) in
+    let p : s ≡ exposure_before (lent_in kind on) b = omega (arith, yet.before, ap (λ ls. exposure_before ls b) none) in
+    let q : 0 ≡ exposure_at (lent_in kind on) b = sym (ap (λ ls. exposure_at ls b) none) ∙ yet.own in
     λ i. record { before = p i; exposure = q i }
 
--- ---- whether a branch has lent
-
-module _ (b : ℕ) (rows : List PositionRow) (k : ℕ) where
-  abbrev pub NotSeen : Type 0
-  NotSeen = branch_in b (plain_positions (drop k rows)) ≡ branch_in b (plain_positions rows)
-
-  module _ (d : PositionRow) (h : k < length rows) (yet : NotSeen) where
-    pub seen-off : ((get_or rows k d).branch ≡ b → ⊥) → branch_in b (plain_positions (drop (k + 1) rows)) ≡ branch_in b (plain_positions rows)
-    unfolding first_of
-    seen-off off = sym (at_drop_more (λ l. branch_in b (plain_positions l)) rows k d h ∙ ap is_some (cond-false (eqb (get_or rows k d).branch b) _ _ (ne_eqb (get_or rows k d).branch b off))) ∙ yet
-
-    pub seen_here : (get_or rows k d).branch ≡ b → true ≡ branch_in b (plain_positions rows)
-    unfolding first_of
-    seen_here on = sym (at_drop_more (λ l. branch_in b (plain_positions l)) rows k d h ∙ ap is_some (cond-true (eqb (get_or rows k d).branch b) _ _ (eq-eqb (get_or rows k d).branch b on))) ∙ yet
-
-  pub never-seen : length rows ≤ k → NotSeen → false ≡ branch_in b (plain_positions rows)
-  unfolding first_of
-  never-seen h yet = sym (at_drop_all (λ l. branch_in b (plain_positions l)) rows k h) ∙ yet
+-- the turn among the rows on an investee is that among its positions
+pub turn-view : (kind : Kind) (id b : ℕ) (rows : List PositionRow) → turn_in kind b (rows_on id rows) ≡ turn_of kind id b (plain_positions rows)
+turn-view kind id b rows i =
+    let lent = map (lent_by kind) (on-view id rows i) in
+    record { before = exposure_before lent b; exposure = exposure_at lent b }

@@ -1,12 +1,9 @@
 -- Places in a list, counted from 0.
-use Rattle.std.specs.Prelude.{ℕ, zero, suc, Bool, cond, not, List, [], ◌∷◌, length, Some, None, Option, nat_lt}
-use Rattle.std.specs.List.{prefix_len}
+use Rattle.std.specs.Prelude.{ℕ, zero, suc, Bool, List, [], ◌∷◌, position, Option}
 
 -- where the first that passes a test stands: after all that do not
 abbrev pub first_place : {X : Type 0} → (X → Bool) → List X → Option ℕ
-first_place test xs =
-    let before = prefix_len (λ x. not (test x)) xs in
-    cond (nat_lt before (length xs)) (Some before) None
+first_place test xs = position test xs
 
 -- the one at a place is changed, and no other
 unfoldable pub change_at : {X : Type 0} → ℕ → (X → X) → List X → List X

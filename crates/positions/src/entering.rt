@@ -1,5 +1,5 @@
 // Finding positions, and entering their balances.
-ghost use Rattle.std.specs.Prelude.{◌≡◌, not, [], ◌∷◌, ◌++◌, length, IfOk, if◌then◌else◌, None, nat_le};
+ghost use Rattle.std.specs.Prelude.{◌≡◌, ◌<◌, [], ◌∷◌, ◌++◌, length, IfOk, if◌then◌else◌, None, nat_le};
 ghost use Rattle.plain.specs.Changes.{amended, posted};
 ghost use Rattle.plain.specs.Limits.{most_positions};
 ghost use Rattle.plain.specs.PlainBook.{is_of, position_of, new_position};
@@ -26,23 +26,15 @@ impl Positions {
     fn place(&self, branch: u64, id: u64) -> Option<usize>
         ensures { result ≡ first_place (is_of branch id) (positions_in self.now) }
     {
-        let rows = self.rows.as_slice();
-        for (k, row) in rows.iter().enumerate() {
-            if row.is_of(branch, id) {
-                return Some(k);
-            }
-        }
-        None
+        self.rows.iter().position(|row| row.is_of(branch, id))
     }
 
     // The balance of a month of a branch on the investee of an id, if it was posted.
     pub fn balance(&self, branch: u64, id: u64, month: u64) -> Option<u32>
         ensures { result ≡ (if in_year month then balance_in month (position_of branch id (positions_in self.now)) else None) }
     {
-        match self.place(branch, id) {
-            Some(at) => self.rows[at].balance(month),
-            None => None,
-        }
+        let at = self.place(branch, id)?;
+        self.rows[at].balance(month)
     }
 
     // How many positions there are.
@@ -66,26 +58,22 @@ impl Positions {
         self.is_full() && self.place(branch, id).is_none()
     }
 
-    // Adds a position with its first balance at the end, and says whether there was room.
-    fn add(&mut self, branch: u8, id: u32, month: u64, balance: u32) -> bool
-        ensures added { result ≡ not (nat_le most_positions (length (positions_in self.old))) }
-        ensures positions { positions_in self.new ≡ (if result then positions_in self.old ++ written month balance (new_position branch id) ∷ [] else positions_in self.old) }
+    // Adds a position with its first balance at the end.
+    fn add(&mut self, branch: u8, id: u32, month: u64, balance: u32)
+        requires { length (positions_in self.old) < most_positions }
+        ensures { positions_in self.new ≡ positions_in self.old ++ written month balance (new_position branch id) ∷ [] }
     {
-        if self.is_full() {
-            return false;
-        }
-        let row = PositionRow::new(branch, id);
-        self.rows.push_reserved(row.written(month, balance));
-        true
+        let mut row = PositionRow::new(branch, id);
+        row.write(month, balance);
+        self.rows.push_reserved(row);
     }
 
     // Writes the balance of one month of the position at a place, and touches no other.
     fn write(&mut self, at: usize, month: u64, balance: u32)
         ensures { positions_in self.new ≡ change_at at (written month balance) (positions_in self.old) }
     {
-        if at < self.rows.len() {
-            let row = self.rows[at];
-            self.rows[at] = row.written(month, balance);
+        if let Some(row) = self.rows.get_mut(at) {
+            row.write(month, balance);
         }
     }
 
@@ -97,20 +85,19 @@ impl Positions {
         if !in_year(month) {
             return false;
         }
-        match self.place(branch as u64, id as u64) {
-            Some(at) => {
-                self.write(at, month, balance);
-                true
-            }
+        match self.place(u64::from(branch), u64::from(id)) {
+            Some(at) => self.write(at, month, balance),
+            None if self.is_full() => return false,
             None => self.add(branch, id, month, balance),
         }
+        true
     }
 
     // Replaces the balance of a month of a position, if there is one.
     pub fn replace(&mut self, branch: u8, id: u32, month: u64, balance: u32)
         ensures { positions_in self.new ≡ (if in_year month then amended branch id month balance (positions_in self.old) else positions_in self.old) }
     {
-        if let Some(at) = self.place(branch as u64, id as u64) {
+        if let Some(at) = self.place(u64::from(branch), u64::from(id)) {
             self.write(at, month, balance);
         }
     }

@@ -28,13 +28,6 @@ pub struct Turn {
 // A turn for each branch.
 pub const TURNS: usize = BRANCHES as usize;
 
-// A place for each of them.
-fn no_turns() -> [Option<Turn>; TURNS]
-    ensures { result ≡ replicate branch_count None }
-{
-    [None; TURNS]
-}
-
 // Writes the turn of a branch at its place, unless there is one.
 fn note(turns: &mut [Option<Turn>], branch: u8, turn: Turn)
     requires { length turns.old ≡ branch_count }
@@ -51,32 +44,28 @@ impl Positions {
     pub fn exposure(&self, kind: Kind, id: u32) -> u64
         ensures { result ≡ exposures (map (lent_by kind) (positions_on id (positions_in self.now))) }
     {
-        let mut sum = 0;
-        for row in self.rows.as_slice() {
-            sum += row.exposure_to(kind, id);
-        }
-        sum
+        self.rows
+            .iter()
+            .filter(|row| row.is_on(id))
+            .map(|row| row.exposure(kind))
+            .sum()
     }
 
     // What was lent to the investee of an id, whose kind is this.
     pub fn lending(&self, kind: Kind, id: u32) -> Lending
         ensures { result ≡ lending_of kind id (positions_in self.now) }
     {
-        let mut positions = 0;
-        let mut exposure = 0;
-        let mut closing = 0;
-        for row in self.rows.as_slice() {
-            if row.id == id {
-                positions += 1;
-                exposure += row.exposure(kind);
-                closing += row.closing();
-            }
+        let mut lending = Lending {
+            positions: 0,
+            exposure: 0,
+            closing: 0,
+        };
+        for row in self.rows.iter().filter(|row| row.is_on(id)) {
+            lending.positions += 1;
+            lending.exposure += row.exposure(kind);
+            lending.closing += row.closing();
         }
-        Lending {
-            positions,
-            exposure,
-            closing,
-        }
+        lending
     }
 
     // The turn of a branch among those that have lent to the investee of an id, whose kind is this.
@@ -84,14 +73,12 @@ impl Positions {
         ensures { result ≡ turn_of kind id branch (positions_in self.now) }
     {
         let mut before = 0;
-        for row in self.rows.as_slice() {
-            if row.id == id {
-                let exposure = row.exposure(kind);
-                if row.is_of_branch(branch) {
-                    return Turn { before, exposure };
-                }
-                before += exposure;
+        for row in self.rows.iter().filter(|row| row.is_on(id)) {
+            let exposure = row.exposure(kind);
+            if row.is_of_branch(branch) {
+                return Turn { before, exposure };
             }
+            before += exposure;
         }
         Turn {
             before,
@@ -103,14 +90,12 @@ impl Positions {
     pub fn turns(&self, kind: Kind, id: u32) -> [Option<Turn>; TURNS]
         ensures { result ≡ turns_of kind id (positions_in self.now) }
     {
-        let mut turns = no_turns();
+        let mut turns = [None; TURNS];
         let mut before = 0;
-        for row in self.rows.as_slice() {
-            if row.id == id {
-                let exposure = row.exposure(kind);
-                note(&mut turns, row.branch, Turn { before, exposure });
-                before += exposure;
-            }
+        for row in self.rows.iter().filter(|row| row.is_on(id)) {
+            let exposure = row.exposure(kind);
+            note(&mut turns, row.branch, Turn { before, exposure });
+            before += exposure;
         }
         turns
     }
@@ -119,11 +104,6 @@ impl Positions {
     pub fn has_branch(&self, branch: u64) -> bool
         ensures { result ≡ branch_in branch (positions_in self.now) }
     {
-        for row in self.rows.as_slice() {
-            if row.is_of_branch(branch) {
-                return true;
-            }
-        }
-        false
+        self.rows.iter().any(|row| row.is_of_branch(branch))
     }
 }

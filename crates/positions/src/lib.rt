@@ -1,7 +1,7 @@
 // The positions of a book: what each branch has lent to each investee, in the order of the first posts.
 #![tactic(auto)]
 
-ghost use Rattle.std.specs.Prelude.{◌≡◌, ◌*◌, ◌^◌, ◌≤◌, if◌then◌else◌, None, vec_len, vec_capacity, sum_by, ◌==◌, nat_eq};
+ghost use Rattle.std.specs.Prelude.{◌≡◌, ◌-◌, ◌*◌, ◌^◌, ◌≤◌, Some, if◌then◌else◌, None, vec_len, vec_capacity, sum_by, ◌==◌, nat_eq};
 ghost use Rattle.std.specs.Option.{unwrap_or};
 ghost use Rattle.rules.specs.Months.{months};
 ghost use Rattle.plain.specs.Exposures.{is_bond, closing_of, exposure_of};
@@ -39,17 +39,25 @@ pub struct Positions {
 pub fn is_bond(kind: Kind) -> bool
     ensures { result ≡ is_bond kind }
 {
-    match kind {
-        Kind::Bond => true,
-        _ => false,
-    }
+    matches!(kind, Kind::Bond)
 }
 
 // Whether the year has a month of this number.
 fn in_year(month: u64) -> bool
     ensures { result ≡ in_year month }
 {
-    month >= 1 && month <= MONTHS
+    (1..=MONTHS).contains(&month)
+}
+
+// The place of a month among the balances of a year, if the year has it.
+fn place_of_month(month: u64) -> Option<usize>
+    ensures { result ≡ (if in_year month then Some (month - 1) else None) }
+{
+    if in_year(month) {
+        Some(month as usize - 1)
+    } else {
+        None
+    }
 }
 
 impl PositionRow {
@@ -64,40 +72,41 @@ impl PositionRow {
         }
     }
 
-    // The position with the balance of a month written, if the year has it.
-    fn written(self, month: u64, balance: u32) -> PositionRow
-        ensures { plain_position result ≡ written month balance (plain_position self) }
+    // Writes the balance of a month, if the year has it.
+    fn write(&mut self, month: u64, balance: u32)
+        ensures { plain_position self.new ≡ written month balance (plain_position self.old) }
     {
-        let mut row = self;
-        if in_year(month) {
-            row.balances[month as usize - 1] = Some(balance);
+        if let Some(place) = place_of_month(month) {
+            self.balances[place] = Some(balance);
         }
-        row
     }
 
     // Whether it is that of a branch.
     fn is_of_branch(self, branch: u64) -> bool
         ensures { result ≡ (self.branch == branch) }
     {
-        self.branch as u64 == branch
+        u64::from(self.branch) == branch
+    }
+
+    // Whether it is on the investee of an id.
+    fn is_on(self, id: u32) -> bool
+        ensures { result ≡ nat_eq self.id id }
+    {
+        self.id == id
     }
 
     // Whether it is that of a branch on the investee of an id.
     fn is_of(self, branch: u64, id: u64) -> bool
         ensures { result ≡ is_of branch id (plain_position self) }
     {
-        self.is_of_branch(branch) && self.id as u64 == id
+        self.is_of_branch(branch) && u64::from(self.id) == id
     }
 
     // The balance of a month, if the year has it and it was posted.
     fn balance(self, month: u64) -> Option<u32>
         ensures { result ≡ (if in_year month then balance_of month (plain_position self) else None) }
     {
-        if in_year(month) {
-            self.balances[month as usize - 1]
-        } else {
-            None
-        }
+        self.balances[place_of_month(month)?]
     }
 
     // The balance of the last month, 0 if it was not posted.
@@ -105,10 +114,7 @@ impl PositionRow {
         ensures value { result ≡ closing_of (plain_position self) }
         ensures bound { result ≤ 2 ^ 32 }
     {
-        match self.balance(MONTHS) {
-            Some(balance) => balance as u64,
-            None => 0,
-        }
+        self.balance(MONTHS).map_or(0, u64::from)
     }
 
     // The balances of the year, added up.
@@ -116,13 +122,10 @@ impl PositionRow {
         ensures value { result ≡ sum_by (λ m. unwrap_or m 0) self.balances }
         ensures bound { result ≤ months * 2 ^ 32 }
     {
-        let mut sum = 0;
-        for balance in self.balances.iter() {
-            if let Some(value) = balance {
-                sum += *value as u64;
-            }
-        }
-        sum
+        self.balances
+            .iter()
+            .map(|balance| u64::from(balance.unwrap_or(0)))
+            .sum()
     }
 
     // What the branch has lent over the year to an investee of a kind.
@@ -134,18 +137,6 @@ impl PositionRow {
             MONTHS * self.closing()
         } else {
             self.lent()
-        }
-    }
-
-    // What it adds to the exposure of the investee of an id.
-    fn exposure_to(self, kind: Kind, id: u32) -> u64
-        ensures value { result ≡ (if nat_eq self.id id then exposure_of kind (plain_position self) else 0) }
-        ensures bound { result ≤ months * 2 ^ 32 }
-    {
-        if self.id == id {
-            self.exposure(kind)
-        } else {
-            0
         }
     }
 }

@@ -1,24 +1,18 @@
-use Rattle.std.proofs.Common.{◌≡◌, ◌^◌, ◌<◌, length, None, sum_by, unwrap_or, ap, ◌∙◌, arith, take_all, rules}
-use Rattle.std.proofs.lemmas.List.Sums.{sum_by_more}
+use Rattle.std.proofs.Common.{◌≡◌, ◌*◌, ◌^◌, ◌≤◌, length, sum_by, unwrap_or, rules, arith}
+use Rattle.std.proofs.lemmas.List.Sums.{sum_by-le}
+use Rattle.std.proofs.lemmas.Iterator.{YieldsList-from_slice}
+use Rattle.std.proofs.lemmas.Iterator.Adapters.{fits_from_length, at_most_from_yields_List}
+use Rattle.rules.specs.Months.{months}
 use Rattle.positions.proofs.PositionRow.lent.Goals as goal
-use Rattle.positions.proofs.PositionRow.lent.Goals.{in-Some, in_default}
 
-pub overflow_add-sum : goal.overflow_add-sum
-overflow_add-sum c = let f : c.in-Some.value < 2 ^ 32 = search rules in omega (arith, c.loop-balance.invariant.1, f)
+pub sum-requires-clause-fits : goal.sum-requires-clause-fits
+sum-requires-clause-fits c =
+    let few : length c.args.self.balances ≤ months = search rules in
+    fits_from_length _ _ months (2 ^ 64) (at_most_from_yields_List (YieldsList-from_slice c.args.self.balances cc) few) c.map.ensures.closure (omega arith) (λ x r q k. search rules)
 
-pub loop-balance-preserved : goal.loop-balance-preserved
-loop-balance-preserved c =
-    let n : length c.args.self.balances ≡ 12 = search rules in
-    let more = sum_by_more (λ m. unwrap_or m 0) c.args.self.balances c.loop-balance.balance-index None (omega (arith, n)) in
-    elim c.match-balance.branch [
-      | in-Some w ↦ let f : w.in-Some.value < 2 ^ 32 = search rules in let g = ap (λ m. unwrap_or m 0) w.in-Some.is in (omega (arith, w.sum-is, more, g, c.loop-balance.invariant.0), omega (arith, w.sum-is, f, c.loop-balance.invariant.1))
-      | in_default w ↦ let g = ap (λ m. unwrap_or m 0) w.in_default.is in (omega (arith, w.sum-is, more, g, c.loop-balance.invariant.0), omega (arith, w.sum-is, c.loop-balance.invariant.1))
-    ]
-
-pub returns : goal.returns
-returns c =
-    let n : length c.args.self.balances ≡ 12 = search rules in
-    record {
-      value = c.loop-balance.invariant.0 ∙ ap (sum_by (λ m. unwrap_or m 0)) (take_all c.loop-balance.balance-index c.args.self.balances (omega (arith, n)));
-      bound = omega (arith, c.loop-balance.invariant.1, n);
-    }
+pub returns-clause-bound : goal.returns-clause-bound
+returns-clause-bound c =
+    let few : length c.args.self.balances ≤ months = search rules in
+    let total : c.sum.result ≡ sum_by (λ m. unwrap_or m 0) c.args.self.balances = search rules in
+    let top : sum_by (λ m. unwrap_or m 0) c.args.self.balances ≤ length c.args.self.balances * 2 ^ 32 = sum_by-le (λ m. unwrap_or m 0) (2 ^ 32) c.args.self.balances (λ k d h. search rules) in
+    omega (arith, total, top, few)

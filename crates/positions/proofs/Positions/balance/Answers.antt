@@ -1,23 +1,24 @@
-use Rattle.std.proofs.Common.{cond, None, vec_items, sym, ap, ◌∙◌, arith}
+use Rattle.std.proofs.Common.{◌≡◌, ℕ, cond, Some, None, Option, vec_items, sym, ap, ◌∙◌}
 use Rattle.plain.specs.PlainBook.{is_of}
 use Rattle.positions.specs.Entries.{balance_in}
+use Rattle.positions.specs.Places.{first_place}
 use Rattle.positions.specs.Rows.{plain_position, plain_positions}
 use Rattle.positions.specs.Years.{in_year}
-use Rattle.positions.proofs.Places.{first-nowhere, row_within, row-found}
+use Rattle.positions.proofs.Places.{first-nowhere, row-found}
 use Rattle.positions.proofs.Posts.{none_anyway}
 use Rattle.positions.proofs.Positions.balance.Goals as goal
 
-pub index-requires : goal.index-requires
-index-requires c =
-    let rows = c.args.self.now.rows in
-    omega (arith, row_within plain_position (is_of c.args.branch c.args.id) (vec_items rows) c.in-Some.at c.in-Some.ensures, rows.ok.0)
+pub returns-in_err-at : goal.returns-in_err-at
+returns-in_err-at c =
+    let qs = plain_positions (vec_items c.args.self.now.rows) in
+    let nothing : ◌≡◌ {A = Option ℕ} c.from_residual.result None = cc in
+    let none : ◌≡◌ {A = Option ℕ} None (first_place (is_of c.args.branch c.args.id) qs) = sym c.in_err-at.was ∙ c.place.ensures in
+    nothing ∙ none_anyway (in_year c.args.month)
+    ∙ ap (λ q. cond (in_year c.args.month) (balance_in c.args.month q) None) (sym (first-nowhere (is_of c.args.branch c.args.id) qs none))
 
-pub returns-in-Some : goal.returns-in-Some
-returns-in-Some c =
+pub returns : goal.returns
+returns c =
+    let rows = vec_items c.args.self.now.rows in
+    let at : Some c.in_ok-at.at ≡ first_place (is_of c.args.branch c.args.id) (plain_positions rows) = sym c.in_ok-at.was ∙ c.place.ensures in
     c.balance.ensures
-    ∙ ap (λ q. cond (in_year c.args.month) (balance_in c.args.month q) None) (sym (row-found plain_position (is_of c.args.branch c.args.id) (vec_items c.args.self.now.rows) c.in-Some.at c.in-Some.ensures c.index.result.now c.index.ensures))
-
-pub returns-in-None : goal.returns-in-None
-returns-in-None c =
-    none_anyway (in_year c.args.month)
-    ∙ ap (λ q. cond (in_year c.args.month) (balance_in c.args.month q) None) (sym (first-nowhere (is_of c.args.branch c.args.id) (plain_positions (vec_items c.args.self.now.rows)) c.in-None.ensures))
+    ∙ ap (λ q. cond (in_year c.args.month) (balance_in c.args.month q) None) (sym (row-found plain_position (is_of c.args.branch c.args.id) rows c.in_ok-at.at at c.index.result.now c.index.ensures))

@@ -1,22 +1,35 @@
-use Rattle.std.proofs.Common.{cond, sym, ap, ◌∙◌}
+use Rattle.std.proofs.Common.{◌≡◌, not, None, Some, Option, ℕ, sym, ap, ◌∙◌}
+use Rattle.plain.specs.PlainBook.{is_of}
+use Rattle.positions.specs.Places.{first_place}
 use Rattle.positions.specs.View.{positions_in}
 use Rattle.positions.proofs.Posts.{there, nowhere, can-enter-there, can-enter-new, posted-there, posted-new}
 use Rattle.positions.proofs.Positions.enter.Goals as goal
 
-pub returns-in-Some : goal.returns-in-Some
-returns-in-Some c =
+pub returns-in-None-clause-entered : goal.returns-in-None-clause-entered
+returns-in-None-clause-entered c =
     let qs = positions_in c.args.self.now in
     let year = sym c.in_year.ensures ∙ c.if-not-in_year.false in
-    record {
-      entered = can-enter-there c.args.branch c.args.id c.args.month c.args.balance qs year (there c.args.branch c.args.id c.args.month c.args.balance qs c.in-Some.at c.in-Some.ensures);
-      positions = c.write.ensures ∙ posted-there c.args.branch c.args.id c.args.month c.args.balance qs c.in-Some.at c.in-Some.ensures year;
-    }
+    let none : ◌≡◌ {A = Option ℕ} None (first_place (is_of c.args.branch c.args.id) qs) = cc in
+    sym (ap not (sym c.is_full.ensures ∙ c.if-is_full.true))
+    ∙ can-enter-new c.args.branch c.args.id c.args.month c.args.balance qs year (nowhere c.args.branch c.args.id c.args.month c.args.balance qs none)
 
-pub returns-in-None : goal.returns-in-None
-returns-in-None c =
+pub returns-in-Some-clause-entered : goal.returns-in-Some-clause-entered
+returns-in-Some-clause-entered c =
     let qs = positions_in c.args.self.now in
     let year = sym c.in_year.ensures ∙ c.if-not-in_year.false in
-    record {
-      entered = c.add.ensures.added ∙ can-enter-new c.args.branch c.args.id c.args.month c.args.balance qs year (nowhere c.args.branch c.args.id c.args.month c.args.balance qs c.in-None.ensures);
-      positions = c.add.ensures.positions ∙ ap (λ rs. cond c.add.result rs qs) (posted-new c.args.branch c.args.id c.args.month c.args.balance qs c.in-None.ensures year);
-    }
+    let at : Some c.in-Some.at ≡ first_place (is_of c.args.branch c.args.id) qs = cc in
+    can-enter-there c.args.branch c.args.id c.args.month c.args.balance qs year (there c.args.branch c.args.id c.args.month c.args.balance qs c.in-Some.at at)
+
+pub returns-in-Some-clause-positions : goal.returns-in-Some-clause-positions
+returns-in-Some-clause-positions c =
+    let qs = positions_in c.args.self.now in
+    let year = sym c.in_year.ensures ∙ c.if-not-in_year.false in
+    let at : Some c.in-Some.at ≡ first_place (is_of c.args.branch c.args.id) qs = cc in
+    c.write.ensures ∙ posted-there c.args.branch c.args.id c.args.month c.args.balance qs c.in-Some.at at year
+
+pub returns-in-None-2-clause-positions : goal.returns-in-None-2-clause-positions
+returns-in-None-2-clause-positions c =
+    let qs = positions_in c.args.self.now in
+    let year = sym c.in_year.ensures ∙ c.if-not-in_year.false in
+    let none : ◌≡◌ {A = Option ℕ} None (first_place (is_of c.args.branch c.args.id) qs) = cc in
+    c.add.ensures ∙ posted-new c.args.branch c.args.id c.args.month c.args.balance qs none year

@@ -1,25 +1,25 @@
-use Rattle.std.proofs.Common.{◌<◌, vec_items, sum_by, sym, ap, ◌∙◌, arith, take_all}
-use Rattle.plain.proofs.Exposures.{adds, exposures-sum}
-use Rattle.positions.specs.Rows.{plain_position, plain_positions}
-use Rattle.positions.proofs.Sums.{sum-next, sum_view}
+use Rattle.std.proofs.Common.{◌^◌, ◌≤◌, eqb, length, map, vec_items, sym, ap, ◌∙◌, arith, rules, tests}
+use Rattle.std.proofs.lemmas.Iterator.{YieldsList-from_slice, YieldsList-from_map}
+use Rattle.std.proofs.lemmas.Iterator.Adapters.{fits_from_length, at_most_from_yields_List, at_most_from_Filter}
+use Rattle.std.proofs.lemmas.Iterator.Consumers.{YieldsList-at, YieldsList-from_filter, sum_by_from_yields_List}
+use Rattle.plain.specs.Exposures.{exposure_of, lent_by}
+use Rattle.plain.specs.Limits.{most_positions}
+use Rattle.plain.specs.Parts.{exposures}
+use Rattle.positions.specs.Rows.{plain_position}
+use Rattle.positions.proofs.Walks.{rows_on, on-view, exposures-rows}
 use Rattle.positions.proofs.Positions.exposure.Goals as goal
 
-pub overflow_add-sum : goal.overflow_add-sum
-overflow_add-sum c =
-    let few : c.loop-row.row-index < 500 = omega (arith, c.as_slice-row-items.ensures.len, c.args.self.now.room.0) in
-    omega (arith, c.exposure_to-sum.ensures.bound, c.loop-row.invariant.1, few)
-
-pub loop-row-preserved : goal.loop-row-preserved
-loop-row-preserved c = (
-  sum-next (λ q. adds c.args.kind c.args.id (plain_position q)) c.as_slice-row-items.result.now c.loop-row.row-index _ c.loop-row.sum c.exposure_to-sum.result
-      c.loop-row-test.true c.exposure_to-sum.ensures.value c.loop-row.invariant.0,
-  omega (arith, c.exposure_to-sum.ensures.bound, c.loop-row.invariant.1),
-)
+pub sum-requires-clause-fits : goal.sum-requires-clause-fits
+sum-requires-clause-fits c =
+    let few : length c.deref.result.now ≤ most_positions = omega (arith, c.deref.ensures.len, c.args.self.now.room.0) in
+    fits_from_length _ _ most_positions (2 ^ 64) (at_most_from_Filter _ (at_most_from_yields_List (YieldsList-from_slice c.deref.result.now cc) few)) c.map.ensures.closure (omega arith) (λ x r q k. search rules)
 
 pub returns : goal.returns
 returns c =
-    let rows = c.as_slice-row-items.result.now in
-    c.loop-row.invariant.0
-    ∙ ap (sum_by (λ q. adds c.args.kind c.args.id (plain_position q))) (take_all c.loop-row.row-index rows c.loop-row-test.false ∙ c.as_slice-row-items.ensures.value)
-    ∙ sym (sum_view plain_position (adds c.args.kind c.args.id) (vec_items c.args.self.now.rows))
-    ∙ sym (exposures-sum c.args.kind c.args.id (plain_positions (vec_items c.args.self.now.rows)))
+    let rows = vec_items c.args.self.now.rows in
+    sum_by_from_yields_List (λ row. exposure_of c.args.kind (plain_position row)) (rows_on c.args.id rows) _ _ c.sum.ensures.ran
+    (YieldsList-from_map _ (λ row. exposure_of c.args.kind (plain_position row))
+    (YieldsList-at c.map.ensures.source (YieldsList-from_filter _ (λ row. eqb row.id c.args.id) (YieldsList-from_slice rows cc) c.filter.ensures.closure (λ x b q k. search (rules, tests))))
+    c.map.ensures.closure (λ x r q k. search rules))
+    ∙ sym (exposures-rows c.args.kind (rows_on c.args.id rows))
+    ∙ ap (λ qs. exposures (map (lent_by c.args.kind) qs)) (on-view c.args.id rows)

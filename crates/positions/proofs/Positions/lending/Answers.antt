@@ -1,20 +1,23 @@
-use Rattle.std.proofs.Common.{ap, ◌∙◌}
-use Rattle.positions.specs.Lending.{lending_of}
-use Rattle.positions.specs.Rows.{plain_positions}
-use Rattle.positions.proofs.Walks.{lent-more, lent_same, lent-all}
+use Rattle.std.proofs.Common.{◌≡◌, ◌<◌, eqb, length, get_or, rules, tests}
+use Rattle.std.proofs.lemmas.List.{length_push}
+use Rattle.std.proofs.lemmas.Iterator.{YieldsList-from_slice}
+use Rattle.std.proofs.lemmas.Iterator.Consumers.{YieldsList-at, YieldsList-from_filter, YieldsList-turn, YieldsList-end}
+use Rattle.positions.proofs.Walks.{rows_on, lent-more, lent-all}
 use Rattle.positions.proofs.Positions.lending.Goals as goal
-use Rattle.positions.proofs.Positions.lending.Goals.{then-row-id, else-row-id}
 
 pub loop-row-preserved : goal.loop-row-preserved
 loop-row-preserved c =
-    let rows = c.as_slice-row-items.result.now in
-    elim c.if-row-id.branch [
-      | then-row-id w ↦ rw (w.positions-is, w.exposure-is, w.closing-is) (lent-more c.args.kind c.args.id rows c.loop-row.row-index _ c.loop-row-test.true c.loop-row.positions c.loop-row.exposure c.loop-row.closing c.loop-row.invariant
-          w.if-row-id.true w.exposure-exposure.result w.closing-closing.result w.exposure-exposure.ensures.value w.exposure-exposure.ensures.bound w.closing-closing.ensures.value w.closing-closing.ensures.bound)
-      | else-row-id w ↦ rw (w.positions-is, w.exposure-is, w.closing-is) (lent_same c.args.kind c.args.id rows c.loop-row.row-index _ c.loop-row-test.true c.loop-row.positions c.loop-row.exposure c.loop-row.closing c.loop-row.invariant w.if-row-id.false)
-    ]
+    let rows = c.args.self.now.rows.items in
+    let row = c.in-Some.row.now in
+    let turn : (length c.loop-row.yielded < length (rows_on c.args.id rows)) × (row ≡ get_or (rows_on c.args.id rows) (length c.loop-row.yielded) row) =
+    YieldsList-turn (YieldsList-at c.into_iter-row-iterator.ensures.into_iter_gives (YieldsList-from_filter _ (λ r. eqb r.id c.args.id) (YieldsList-from_slice rows cc) c.filter-row-items.ensures.closure (λ x b q k. search (rules, tests)))) c.loop-row.yielded _ c.loop-row.yielded_by _ _ c.in-Some.row c.in-Some.is c.next.ensures.steps in
+    rw (length_push c.loop-row.yielded c.in-Some.row)
+    (lent-more c.args.kind (rows_on c.args.id rows) (length c.loop-row.yielded) row c.loop-row.lending turn.0 turn.1 c.loop-row.invariant
+    c.exposure.result c.closing.result c.exposure.ensures.value c.exposure.ensures.bound c.closing.ensures.value c.closing.ensures.bound)
 
 pub returns : goal.returns
 returns c =
-    lent-all c.args.kind c.args.id c.as_slice-row-items.result.now c.loop-row.row-index c.loop-row.positions c.loop-row.exposure c.loop-row.closing c.loop-row-test.false c.loop-row.invariant
-    ∙ ap (λ rows. lending_of c.args.kind c.args.id (plain_positions rows)) c.as_slice-row-items.ensures.value
+    let rows = c.args.self.now.rows.items in
+    let end : length c.loop-row.yielded ≡ length (rows_on c.args.id rows) =
+    (YieldsList-end (YieldsList-at c.into_iter-row-iterator.ensures.into_iter_gives (YieldsList-from_filter _ (λ r. eqb r.id c.args.id) (YieldsList-from_slice rows cc) c.filter-row-items.ensures.closure (λ x b q k. search (rules, tests)))) c.loop-row.yielded _ c.loop-row.yielded_by _ _ c.in-None.is c.next.ensures.steps).1 in
+    lent-all c.args.kind c.args.id rows (length c.loop-row.yielded) c.loop-row.lending end c.loop-row.invariant

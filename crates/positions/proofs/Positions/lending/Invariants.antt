@@ -1,5 +1,6 @@
-use Rattle.positions.proofs.Walks.{LentSofar}
+use Rattle.std.proofs.Common.{length}
+use Rattle.positions.proofs.Walks.{LentSofar, rows_on}
 use Rattle.positions.proofs.Positions.lending.Given as goal
 
 abbrev pub invariant-loop-row : goal.invariant-loop-row
-invariant-loop-row l = LentSofar l.kind l.id l.row-items l.row-index l.positions l.exposure l.closing
+invariant-loop-row l = LentSofar l.kind (rows_on l.fn.id l.fn.self.rows.items) (length l.yielded) l.lending

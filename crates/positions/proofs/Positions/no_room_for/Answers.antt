@@ -13,19 +13,9 @@ when-full : (a b : Bool) → b ≡ true → a ≡ (a && b)
 when-full true b e = sym e
 when-full false b e = refl
 
-with-room : (a b : Bool) → b ≡ false → false ≡ (a && b)
-with-room true b e = sym e
-with-room false b e = refl
-
 pub returns-then-is_full : goal.returns-then-is_full
 returns-then-is_full c =
     let qs = positions_in c.args.self.now in
     flip (is_some c.place.result) c.is_none.result c.is_none.ensures
     ∙ ap not (ap is_some c.place.ensures ∙ found_alike (is_of c.args.branch c.args.id) qs)
     ∙ when-full (not (is_some (position_of c.args.branch c.args.id qs))) (leb most_positions (length qs)) (sym c.is_full.ensures ∙ c.if-is_full.true)
-
-pub returns-else-is_full : goal.returns-else-is_full
-returns-else-is_full c =
-    let qs = positions_in c.args.self.now in
-    c.if-is_full.false
-    ∙ with-room (not (is_some (position_of c.args.branch c.args.id qs))) (leb most_positions (length qs)) (sym c.is_full.ensures ∙ c.if-is_full.false)

@@ -1,27 +1,35 @@
-use Rattle.std.proofs.Common.{sym, ap, ◌∙◌}
+use Rattle.std.proofs.Common.{◌≡◌, ◌<◌, eqb, length, get_or, sym, ◌∙◌, rules, tests}
 use Rattle.std.proofs.lemmas.Bool.{eqb-true, eqb-false}
-use Rattle.positions.specs.Lending.{turn_of}
-use Rattle.positions.specs.Rows.{plain_positions}
-use Rattle.positions.proofs.Walks.{turn-off, turn-past, turn-here, turn-never}
+use Rattle.std.proofs.lemmas.List.{length_push}
+use Rattle.std.proofs.lemmas.Iterator.{YieldsList-from_slice}
+use Rattle.std.proofs.lemmas.Iterator.Consumers.{YieldsList-at, YieldsList-from_filter, YieldsList-turn, YieldsList-end}
+use Rattle.positions.proofs.Walks.{rows_on, turn-past, turn-here, turn-never, turn-view}
 use Rattle.positions.proofs.Positions.turn.Goals as goal
-use Rattle.positions.proofs.Positions.turn.Goals.{then-row-id+else-is_of_branch, else-row-id}
 
 pub returns-then-is_of_branch : goal.returns-then-is_of_branch
 returns-then-is_of_branch c =
-    turn-here c.args.kind c.args.id c.args.branch c.as_slice-row-items.result.now c.loop-row.row-index _ c.loop-row-test.true c.loop-row.before c.loop-row.invariant
-    c.if-row-id.true (eqb-true _ _ (sym c.is_of_branch.ensures ∙ c.if-is_of_branch.true)) c.exposure-exposure.result c.exposure-exposure.ensures.value
-    ∙ ap (λ rows. turn_of c.args.kind c.args.id c.args.branch (plain_positions rows)) c.as_slice-row-items.ensures.value
+    let rows = c.args.self.now.rows.items in
+    let row = c.in-Some.row.now in
+    let turn : (length c.loop-row.yielded < length (rows_on c.args.id rows)) × (row ≡ get_or (rows_on c.args.id rows) (length c.loop-row.yielded) row) =
+    YieldsList-turn (YieldsList-at c.into_iter-row-iterator.ensures.into_iter_gives (YieldsList-from_filter _ (λ r. eqb r.id c.args.id) (YieldsList-from_slice rows cc) c.filter-row-items.ensures.closure (λ x b q k. search (rules, tests)))) c.loop-row.yielded _ c.loop-row.yielded_by _ _ c.in-Some.row c.in-Some.is c.next.ensures.steps in
+    turn-here c.args.kind c.args.branch (rows_on c.args.id rows) (length c.loop-row.yielded) row turn.0 turn.1 c.loop-row.before c.loop-row.invariant
+    (eqb-true _ _ (sym c.is_of_branch.ensures ∙ c.if-is_of_branch.true)) c.exposure-exposure.result c.exposure-exposure.ensures.value
+    ∙ turn-view c.args.kind c.args.id c.args.branch rows
 
 pub loop-row-preserved : goal.loop-row-preserved
 loop-row-preserved c =
-    let rows = c.as_slice-row-items.result.now in
-    elim c.if-row-id.branch [
-      | then-row-id+else-is_of_branch w ↦ rw w.before-is (turn-past c.args.kind c.args.id c.args.branch rows c.loop-row.row-index _ c.loop-row-test.true c.loop-row.before c.loop-row.invariant
-          w.if-row-id.true (eqb-false _ _ (sym w.is_of_branch.ensures ∙ w.if-is_of_branch.false)) w.exposure-exposure.result w.exposure-exposure.ensures.value w.exposure-exposure.ensures.bound)
-      | else-row-id w ↦ rw w.before-is (turn-off c.args.kind c.args.id c.args.branch rows c.loop-row.row-index _ c.loop-row-test.true c.loop-row.before c.loop-row.invariant w.if-row-id.false)
-    ]
+    let rows = c.args.self.now.rows.items in
+    let row = c.in-Some.row.now in
+    let turn : (length c.loop-row.yielded < length (rows_on c.args.id rows)) × (row ≡ get_or (rows_on c.args.id rows) (length c.loop-row.yielded) row) =
+    YieldsList-turn (YieldsList-at c.into_iter-row-iterator.ensures.into_iter_gives (YieldsList-from_filter _ (λ r. eqb r.id c.args.id) (YieldsList-from_slice rows cc) c.filter-row-items.ensures.closure (λ x b q k. search (rules, tests)))) c.loop-row.yielded _ c.loop-row.yielded_by _ _ c.in-Some.row c.in-Some.is c.next.ensures.steps in
+    rw (length_push c.loop-row.yielded c.in-Some.row)
+    (turn-past c.args.kind c.args.branch (rows_on c.args.id rows) (length c.loop-row.yielded) row turn.0 turn.1 c.loop-row.before c.loop-row.invariant
+    (eqb-false _ _ (sym c.is_of_branch.ensures ∙ c.if-is_of_branch.false)) c.exposure-exposure.result c.exposure-exposure.ensures.value c.exposure-exposure.ensures.bound)
 
 pub returns : goal.returns
 returns c =
-    turn-never c.args.kind c.args.id c.args.branch c.as_slice-row-items.result.now c.loop-row.row-index c.loop-row.before c.loop-row-test.false c.loop-row.invariant
-    ∙ ap (λ rows. turn_of c.args.kind c.args.id c.args.branch (plain_positions rows)) c.as_slice-row-items.ensures.value
+    let rows = c.args.self.now.rows.items in
+    let end : length c.loop-row.yielded ≡ length (rows_on c.args.id rows) =
+    (YieldsList-end (YieldsList-at c.into_iter-row-iterator.ensures.into_iter_gives (YieldsList-from_filter _ (λ r. eqb r.id c.args.id) (YieldsList-from_slice rows cc) c.filter-row-items.ensures.closure (λ x b q k. search (rules, tests)))) c.loop-row.yielded _ c.loop-row.yielded_by _ _ c.in-None.is c.next.ensures.steps).1 in
+    turn-never c.args.kind c.args.branch (rows_on c.args.id rows) (length c.loop-row.yielded) c.loop-row.before end c.loop-row.invariant
+    ∙ turn-view c.args.kind c.args.id c.args.branch rows

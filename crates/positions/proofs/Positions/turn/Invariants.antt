@@ -1,5 +1,6 @@
-use Rattle.positions.proofs.Walks.{NoTurnYet}
+use Rattle.std.proofs.Common.{length}
+use Rattle.positions.proofs.Walks.{NoTurnYet, rows_on}
 use Rattle.positions.proofs.Positions.turn.Given as goal
 
 abbrev pub invariant-loop-row : goal.invariant-loop-row
-invariant-loop-row l = NoTurnYet l.kind l.id l.branch l.row-items l.row-index l.before
+invariant-loop-row l = NoTurnYet l.kind l.branch (rows_on l.fn.id l.fn.self.rows.items) (length l.yielded) l.before

@@ -1,23 +1,27 @@
-use Rattle.std.proofs.Common.{ap, ◌∙◌}
-use Rattle.positions.specs.Lending.{turns_of}
-use Rattle.positions.specs.Rows.{plain_positions}
-use Rattle.positions.proofs.Turns.{turns-first, turns-off, turns-on, turns-all}
+use Rattle.std.proofs.Common.{◌≡◌, ◌<◌, eqb, length, get_or, rules, tests}
+use Rattle.std.proofs.lemmas.List.{length_push}
+use Rattle.std.proofs.lemmas.Iterator.{YieldsList-from_slice}
+use Rattle.std.proofs.lemmas.Iterator.Consumers.{YieldsList-at, YieldsList-from_filter, YieldsList-turn, YieldsList-end}
+use Rattle.positions.proofs.Turns.{turns-first, turns-on, turns-all}
+use Rattle.positions.proofs.Walks.{rows_on}
 use Rattle.positions.proofs.Positions.turns.Goals as goal
-use Rattle.positions.proofs.Positions.turns.Goals.{then-row-id, else-row-id}
 
 pub loop-row-init : goal.loop-row-init
-loop-row-init c = turns-first c.args.kind c.args.id c.as_slice-row-items.result.now c.no_turns-turns.result c.no_turns-turns.ensures
+loop-row-init c = turns-first c.args.kind (rows_on c.args.id c.args.self.now.rows.items)
 
 pub loop-row-preserved : goal.loop-row-preserved
 loop-row-preserved c =
-    let rows = c.as_slice-row-items.result.now in
-    elim c.if-row-id.branch [
-      | then-row-id w ↦ rw (w.before-is, w.turns-is) (turns-on c.args.kind c.args.id rows c.loop-row.row-index _ c.loop-row-test.true c.loop-row.before c.loop-row.turns c.loop-row.invariant
-          w.if-row-id.true w.exposure-exposure.result w.exposure-exposure.ensures.value w.exposure-exposure.ensures.bound w.note.new.turns w.note.ensures)
-      | else-row-id w ↦ rw (w.before-is, w.turns-is) (turns-off c.args.kind c.args.id rows c.loop-row.row-index _ c.loop-row-test.true c.loop-row.before c.loop-row.turns c.loop-row.invariant w.if-row-id.false)
-    ]
+    let rows = c.args.self.now.rows.items in
+    let row = c.in-Some.row.now in
+    let turn : (length c.loop-row.yielded < length (rows_on c.args.id rows)) × (row ≡ get_or (rows_on c.args.id rows) (length c.loop-row.yielded) row) =
+    YieldsList-turn (YieldsList-at c.into_iter-row-iterator.ensures.into_iter_gives (YieldsList-from_filter _ (λ r. eqb r.id c.args.id) (YieldsList-from_slice rows cc) c.filter-row-items.ensures.closure (λ x b q k. search (rules, tests)))) c.loop-row.yielded _ c.loop-row.yielded_by _ _ c.in-Some.row c.in-Some.is c.next.ensures.steps in
+    rw (length_push c.loop-row.yielded c.in-Some.row)
+    (turns-on c.args.kind (rows_on c.args.id rows) (length c.loop-row.yielded) row turn.0 turn.1 c.loop-row.before c.loop-row.turns c.loop-row.invariant
+    c.exposure-exposure.result c.exposure-exposure.ensures.value c.exposure-exposure.ensures.bound c.note.new.turns c.note.ensures)
 
 pub returns : goal.returns
 returns c =
-    turns-all c.args.kind c.args.id c.as_slice-row-items.result.now c.loop-row.row-index c.loop-row.before c.loop-row.turns c.loop-row-test.false c.loop-row.invariant
-    ∙ ap (λ rows. turns_of c.args.kind c.args.id (plain_positions rows)) c.as_slice-row-items.ensures.value
+    let rows = c.args.self.now.rows.items in
+    let end : length c.loop-row.yielded ≡ length (rows_on c.args.id rows) =
+    (YieldsList-end (YieldsList-at c.into_iter-row-iterator.ensures.into_iter_gives (YieldsList-from_filter _ (λ r. eqb r.id c.args.id) (YieldsList-from_slice rows cc) c.filter-row-items.ensures.closure (λ x b q k. search (rules, tests)))) c.loop-row.yielded _ c.loop-row.yielded_by _ _ c.in-None.is c.next.ensures.steps).1 in
+    turns-all c.args.kind c.args.id rows (length c.loop-row.yielded) c.loop-row.before c.loop-row.turns end c.loop-row.invariant
