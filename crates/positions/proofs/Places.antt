@@ -1,7 +1,7 @@
 -- Finding a row and changing it, by its place.
 use Rattle.std.proofs.Common.{◌≡◌, ℕ, zero, suc, ◌+◌, ◌<◌, ◌≤◌, Bool, true, false, cond, not, ltb, List, [], ◌∷◌, map, length, get_or, drop, set, is_some, Some, None, sym, refl, ap, ◌∙◌, ⊎_elim, arith}
 use Rattle.std.specs.List.{AllByRecursion}
-use Rattle.std.proofs.lemmas.List.{at_drop_more, at_drop_all, length-map, get_or-map, map-set}
+use Rattle.std.proofs.lemmas.List.{at_drop_more, at_drop_all, length-map, get_or-map, get_or_default, map-set}
 use Rattle.std.proofs.lemmas.Bool.{lt-ltb, le-ltb, not_from_true, not_from_false, cond-true, cond-false, cases_lt}
 use Rattle.plain.specs.Lists.{first_of, change_first}
 use Rattle.plain.proofs.Lists.{place_of, first-at, first_past, change-at}
@@ -64,6 +64,11 @@ module _ {X Y : Type 0} (view : X → Y) (test : Y → Bool) (xs : List X) (k : 
       first-at-place test (map view xs) k (view row) at
       ∙ ap Some (get_or-map view xs k row (view row) row_within ∙ ap view (sym is))
 
+  -- the same, read at a place of the same list with any default
+  pub row-at : (read : List X) (d : X) → read ≡ xs → first_of test (map view xs) ≡ Some (view (get_or read k d))
+  row-at read d same =
+      row-found (get_or read k d) (get_or_default read k d (get_or read k d) (omega (arith, row_within, ap length same)) ∙ ap (λ l. get_or l k (get_or read k d)) same)
+
 -- ---- one change
 
 pub change-set : {X : Type 0} (change : X → X) (xs : List X) (k : ℕ) (d : X) → change_at k change xs ≡ set xs k (change (get_or xs k d))
@@ -107,6 +112,11 @@ written-view view change xs k old new h is e =
     map-set view xs k new
     ∙ ap (set (map view xs) k) (e ∙ ap change (ap view is ∙ sym (get_or-map view xs k old (view old) h)))
     ∙ sym (change-set change (map view xs) k (view old))
+
+-- the same, where the old row was read in the same list with any default
+pub written-at : {X Y : Type 0} (view : X → Y) (change : Y → Y) (xs read : List X) (k : ℕ) (d new : X) → read ≡ xs → k < length xs → view new ≡ change (view (get_or read k d)) → map view (set xs k new) ≡ change_at k change (map view xs)
+written-at view change xs read k d new same h e =
+    written-view view change xs k (get_or read k d) new h (get_or_default read k d (get_or read k d) (omega (arith, h, ap length same)) ∙ ap (λ l. get_or l k (get_or read k d)) same) e
 
 -- ---- a walk that looks for the first row whose view passes
 

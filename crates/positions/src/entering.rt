@@ -1,5 +1,5 @@
 // Finding positions, and entering their balances.
-ghost use Rattle.std.specs.Prelude.{◌≡◌, ◌<◌, [], ◌∷◌, ◌++◌, length, IfOk, if◌then◌else◌, None, nat_le};
+ghost use Rattle.std.specs.Prelude.{◌≡◌, ◌<◌, [], ◌∷◌, ◌++◌, length, IfOk, if◌then◌else◌, None};
 ghost use Rattle.plain.specs.Changes.{amended, posted};
 ghost use Rattle.plain.specs.Limits.{most_positions};
 ghost use Rattle.plain.specs.PlainBook.{is_of, position_of, new_position};
@@ -10,15 +10,15 @@ ghost use Rattle.positions.specs.View.{positions_in};
 ghost use Rattle.positions.specs.Years.{in_year};
 
 use crate::{PositionRow, Positions, in_year};
-use plain::limits::{MOST_POSITIONS, full_of_positions};
 use std::alloc::{AllocError, Global};
+use tables::Table;
 
 impl Positions {
     // A table without positions. It reserves all the memory that the table will use.
     pub fn new(heap: Global) -> Result<Positions, AllocError>
         ensures { IfOk result (λ t. positions_in t ≡ []) }
     {
-        let rows = Vec::with_capacity(heap, MOST_POSITIONS)?;
+        let rows = Table::new(heap)?;
         Ok(Positions { rows })
     }
 
@@ -26,7 +26,10 @@ impl Positions {
     fn place(&self, branch: u64, id: u64) -> Option<usize>
         ensures { result ≡ first_place (is_of branch id) (positions_in self.now) }
     {
-        self.rows.iter().position(|row| row.is_of(branch, id))
+        self.rows
+            .as_slice()
+            .iter()
+            .position(|row| row.is_of(branch, id))
     }
 
     // The balance of a month of a branch on the investee of an id, if it was posted.
@@ -34,7 +37,7 @@ impl Positions {
         ensures { result ≡ (if in_year month then balance_in month (position_of branch id (positions_in self.now)) else None) }
     {
         let at = self.place(branch, id)?;
-        self.rows[at].balance(month)
+        self.rows.as_slice()[at].balance(month)
     }
 
     // How many positions there are.
@@ -44,18 +47,11 @@ impl Positions {
         self.rows.len()
     }
 
-    // Whether the table holds as many positions as it can.
-    fn is_full(&self) -> bool
-        ensures { result ≡ nat_le most_positions (length (positions_in self.now)) }
-    {
-        full_of_positions(self.rows.len())
-    }
-
     // Whether the position would be a new one, for which there is no room: it is looked for only in a full table.
     pub fn no_room_for(&self, branch: u64, id: u64) -> bool
         ensures { result ≡ no_room_for branch id (positions_in self.now) }
     {
-        self.is_full() && self.place(branch, id).is_none()
+        self.rows.is_full() && self.place(branch, id).is_none()
     }
 
     // Adds a position with its first balance at the end.
@@ -65,15 +61,17 @@ impl Positions {
     {
         let mut row = PositionRow::new(branch, id);
         row.write(month, balance);
-        self.rows.push_reserved(row);
+        self.rows.push(row);
     }
 
     // Writes the balance of one month of the position at a place, and touches no other.
     fn write(&mut self, at: usize, month: u64, balance: u32)
         ensures { positions_in self.new ≡ change_at at (written month balance) (positions_in self.old) }
     {
-        if let Some(row) = self.rows.get_mut(at) {
+        if at < self.rows.len() {
+            let mut row = self.rows.as_slice()[at];
             row.write(month, balance);
+            self.rows.set(at, row);
         }
     }
 
@@ -87,7 +85,7 @@ impl Positions {
         }
         match self.place(u64::from(branch), u64::from(id)) {
             Some(at) => self.write(at, month, balance),
-            None if self.is_full() => return false,
+            None if self.rows.is_full() => return false,
             None => self.add(branch, id, month, balance),
         }
         true

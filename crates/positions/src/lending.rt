@@ -33,8 +33,8 @@ fn note(turns: &mut [Option<Turn>], branch: u8, turn: Turn)
     requires { length turns.old ≡ branch_count }
     ensures { turns.new ≡ noted branch turn turns.old }
 {
-    if !branch_out_of_range(branch as u64) {
-        let at = branch as usize - 1;
+    if !branch_out_of_range(u64::from(branch)) {
+        let at = usize::from(branch) - 1;
         turns[at] = Some(turns[at].unwrap_or(turn));
     }
 }
@@ -45,6 +45,7 @@ impl Positions {
         ensures { result ≡ exposures (map (lent_by kind) (positions_on id (positions_in self.now))) }
     {
         self.rows
+            .as_slice()
             .iter()
             .filter(|row| row.is_on(id))
             .map(|row| row.exposure(kind))
@@ -60,7 +61,7 @@ impl Positions {
             exposure: 0,
             closing: 0,
         };
-        for row in self.rows.iter().filter(|row| row.is_on(id)) {
+        for row in self.rows.as_slice().iter().filter(|row| row.is_on(id)) {
             lending.positions += 1;
             lending.exposure += row.exposure(kind);
             lending.closing += row.closing();
@@ -73,7 +74,7 @@ impl Positions {
         ensures { result ≡ turn_of kind id branch (positions_in self.now) }
     {
         let mut before = 0;
-        for row in self.rows.iter().filter(|row| row.is_on(id)) {
+        for row in self.rows.as_slice().iter().filter(|row| row.is_on(id)) {
             let exposure = row.exposure(kind);
             if row.is_of_branch(branch) {
                 return Turn { before, exposure };
@@ -92,7 +93,7 @@ impl Positions {
     {
         let mut turns = [None; TURNS];
         let mut before = 0;
-        for row in self.rows.iter().filter(|row| row.is_on(id)) {
+        for row in self.rows.as_slice().iter().filter(|row| row.is_on(id)) {
             let exposure = row.exposure(kind);
             note(&mut turns, row.branch, Turn { before, exposure });
             before += exposure;
@@ -104,6 +105,9 @@ impl Positions {
     pub fn has_branch(&self, branch: u64) -> bool
         ensures { result ≡ branch_in branch (positions_in self.now) }
     {
-        self.rows.iter().any(|row| row.is_of_branch(branch))
+        self.rows
+            .as_slice()
+            .iter()
+            .any(|row| row.is_of_branch(branch))
     }
 }

@@ -1,18 +1,19 @@
 // The positions of a book: what each branch has lent to each investee, in the order of the first posts.
 #![tactic(auto)]
 
-ghost use Rattle.std.specs.Prelude.{◌≡◌, ◌-◌, ◌*◌, ◌^◌, ◌≤◌, Some, if◌then◌else◌, None, vec_len, vec_capacity, sum_by, ◌==◌, nat_eq};
+ghost use Rattle.std.specs.Prelude.{◌≡◌, ◌-◌, ◌*◌, ◌^◌, ◌≤◌, Some, if◌then◌else◌, None, sum_by, ◌==◌, nat_eq};
 ghost use Rattle.std.specs.Option.{unwrap_or};
 ghost use Rattle.rules.specs.Months.{months};
 ghost use Rattle.plain.specs.Exposures.{is_bond, closing_of, exposure_of};
-ghost use Rattle.plain.specs.Limits.{most_positions};
 ghost use Rattle.plain.specs.PlainBook.{is_of, new_position, balance_of};
 ghost use Rattle.positions.specs.Entries.{written};
 ghost use Rattle.positions.specs.Rows.{plain_position};
 ghost use Rattle.positions.specs.Years.{in_year};
 
+use plain::limits::MOST_POSITIONS;
 use rules::MONTHS;
 use rules::kinds::Kind;
+use tables::Table;
 
 mod entering;
 pub mod lending;
@@ -31,8 +32,7 @@ struct PositionRow {
 // A table of positions with room for all that a book can hold: only making it wants memory.
 #[derive(Drop)]
 pub struct Positions {
-    rows: Vec<PositionRow>,
-    ghost room: { (vec_len rows ≤ most_positions) × (most_positions ≤ vec_capacity rows) },
+    rows: Table<PositionRow, MOST_POSITIONS>,
 }
 
 // Whether an investee of the kind has one balance in a year.

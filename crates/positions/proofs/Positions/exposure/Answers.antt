@@ -1,22 +1,22 @@
-use Rattle.std.proofs.Common.{◌^◌, ◌≤◌, eqb, length, map, vec_items, sym, ap, ◌∙◌, arith, rules, tests}
+use Rattle.std.proofs.Common.{◌^◌, eqb, map, sym, ap, ◌∙◌, arith, rules, tests}
 use Rattle.std.proofs.lemmas.Iterator.{YieldsList-from_slice, YieldsList-from_map}
 use Rattle.std.proofs.lemmas.Iterator.Adapters.{fits_from_length, at_most_from_yields_List, at_most_from_Filter}
 use Rattle.std.proofs.lemmas.Iterator.Consumers.{YieldsList-at, YieldsList-from_filter, sum_by_from_yields_List}
 use Rattle.plain.specs.Exposures.{exposure_of, lent_by}
 use Rattle.plain.specs.Limits.{most_positions}
 use Rattle.plain.specs.Parts.{exposures}
+use Rattle.tables.specs.Tables.{rows_in}
 use Rattle.positions.specs.Rows.{plain_position}
 use Rattle.positions.proofs.Walks.{rows_on, on-view, exposures-rows}
 use Rattle.positions.proofs.Positions.exposure.Goals as goal
 
 pub sum-requires-clause-fits : goal.sum-requires-clause-fits
 sum-requires-clause-fits c =
-    let few : length c.deref.result.now ≤ most_positions = omega (arith, c.deref.ensures.len, c.args.self.now.room.0) in
-    fits_from_length _ _ most_positions (2 ^ 64) (at_most_from_Filter _ (at_most_from_yields_List (YieldsList-from_slice c.deref.result.now cc) few)) c.map.ensures.closure (omega arith) (λ x r q k. search rules)
+    fits_from_length _ _ most_positions (2 ^ 64) (at_most_from_Filter _ (at_most_from_yields_List (YieldsList-from_slice c.as_slice.result.now cc) c.as_slice.ensures.few)) c.map.ensures.closure (omega arith) (λ x r q k. search rules)
 
 pub returns : goal.returns
 returns c =
-    let rows = vec_items c.args.self.now.rows in
+    let rows = rows_in c.args.self.now.rows in
     sum_by_from_yields_List (λ row. exposure_of c.args.kind (plain_position row)) (rows_on c.args.id rows) _ _ c.sum.ensures.ran
     (YieldsList-from_map _ (λ row. exposure_of c.args.kind (plain_position row))
     (YieldsList-at c.map.ensures.source (YieldsList-from_filter _ (λ row. eqb row.id c.args.id) (YieldsList-from_slice rows cc) c.filter.ensures.closure (λ x b q k. search (rules, tests))))

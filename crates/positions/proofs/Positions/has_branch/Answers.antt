@@ -1,6 +1,7 @@
-use Rattle.std.proofs.Common.{eqb, vec_items, ◌∙◌, rules, tests}
+use Rattle.std.proofs.Common.{eqb, ◌∙◌, rules, tests}
 use Rattle.std.proofs.lemmas.Iterator.{YieldsList-from_slice}
 use Rattle.std.proofs.lemmas.Iterator.Search.{any_from_yields_List}
+use Rattle.tables.specs.Tables.{rows_in}
 use Rattle.positions.specs.Rows.{plain_position}
 use Rattle.positions.proofs.Views.{any-view}
 use Rattle.positions.proofs.Positions.has_branch.Goals as goal
@@ -8,5 +9,5 @@ use Rattle.positions.proofs.Positions.has_branch.Goals as goal
 pub returns : goal.returns
 returns c =
     any_from_yields_List (λ row. eqb row.branch c.args.branch) _ _ _ c.any.ensures.ran
-    (YieldsList-from_slice (vec_items c.args.self.now.rows) cc) (λ x b q k. search (rules, tests))
-    ∙ any-view plain_position (λ q. eqb q.branch c.args.branch) (vec_items c.args.self.now.rows)
+    (YieldsList-from_slice (rows_in c.args.self.now.rows) cc) (λ x b q k. search (rules, tests))
+    ∙ any-view plain_position (λ q. eqb q.branch c.args.branch) (rows_in c.args.self.now.rows)

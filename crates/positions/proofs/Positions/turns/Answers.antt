@@ -2,16 +2,17 @@ use Rattle.std.proofs.Common.{◌≡◌, ◌<◌, eqb, length, get_or, rules, te
 use Rattle.std.proofs.lemmas.List.{length_push}
 use Rattle.std.proofs.lemmas.Iterator.{YieldsList-from_slice}
 use Rattle.std.proofs.lemmas.Iterator.Consumers.{YieldsList-at, YieldsList-from_filter, YieldsList-turn, YieldsList-end}
+use Rattle.tables.specs.Tables.{rows_in}
 use Rattle.positions.proofs.Turns.{turns-first, turns-on, turns-all}
 use Rattle.positions.proofs.Walks.{rows_on}
 use Rattle.positions.proofs.Positions.turns.Goals as goal
 
 pub loop-row-init : goal.loop-row-init
-loop-row-init c = turns-first c.args.kind (rows_on c.args.id c.args.self.now.rows.items)
+loop-row-init c = turns-first c.args.kind (rows_on c.args.id (rows_in c.args.self.now.rows))
 
 pub loop-row-preserved : goal.loop-row-preserved
 loop-row-preserved c =
-    let rows = c.args.self.now.rows.items in
+    let rows = rows_in c.args.self.now.rows in
     let row = c.in-Some.row.now in
     let turn : (length c.loop-row.yielded < length (rows_on c.args.id rows)) × (row ≡ get_or (rows_on c.args.id rows) (length c.loop-row.yielded) row) =
     YieldsList-turn (YieldsList-at c.into_iter-row-iterator.ensures.into_iter_gives (YieldsList-from_filter _ (λ r. eqb r.id c.args.id) (YieldsList-from_slice rows cc) c.filter-row-items.ensures.closure (λ x b q k. search (rules, tests)))) c.loop-row.yielded _ c.loop-row.yielded_by _ _ c.in-Some.row c.in-Some.is c.next.ensures.steps in
@@ -21,7 +22,7 @@ loop-row-preserved c =
 
 pub returns : goal.returns
 returns c =
-    let rows = c.args.self.now.rows.items in
+    let rows = rows_in c.args.self.now.rows in
     let end : length c.loop-row.yielded ≡ length (rows_on c.args.id rows) =
     (YieldsList-end (YieldsList-at c.into_iter-row-iterator.ensures.into_iter_gives (YieldsList-from_filter _ (λ r. eqb r.id c.args.id) (YieldsList-from_slice rows cc) c.filter-row-items.ensures.closure (λ x b q k. search (rules, tests)))) c.loop-row.yielded _ c.loop-row.yielded_by _ _ c.in-None.is c.next.ensures.steps).1 in
     turns-all c.args.kind c.args.id rows (length c.loop-row.yielded) c.loop-row.before c.loop-row.turns end c.loop-row.invariant

@@ -1,7 +1,8 @@
 use Rattle.std.proofs.Common.{length}
+use Rattle.tables.specs.Tables.{rows_in}
 use Rattle.positions.proofs.Turns.{TurnsSofar}
 use Rattle.positions.proofs.Walks.{rows_on}
 use Rattle.positions.proofs.Positions.turns.Given as goal
 
 abbrev pub invariant-loop-row : goal.invariant-loop-row
-invariant-loop-row l = TurnsSofar l.kind (rows_on l.fn.id l.fn.self.rows.items) (length l.yielded) l.before l.turns
+invariant-loop-row l = TurnsSofar l.kind (rows_on l.fn.id (rows_in l.fn.self.rows)) (length l.yielded) l.before l.turns

@@ -1,0 +1,16 @@
+// A small table, filled and changed.
+use crate::Table;
+use std::test::Fail;
+
+#[test]
+fn a_table_of_two(rt: HostRuntime) -> Result<(), Fail> {
+    let mut table: Table<u32, 2> = Table::new(rt.alloc())?;
+    table.push(7);
+    assert!(rt; !table.is_full());
+    table.push(8);
+    table.set(0, 9);
+    assert!(rt; table.is_full());
+    assert_eq!(rt; table.len(), 2);
+    assert_eq!(rt; table.as_slice(), [9, 8].as_slice());
+    Ok(())
+}
