@@ -1,10 +1,12 @@
 // The guides that a file can name, as one rule.
 ghost use Rattle.std.specs.Prelude.{◌≡◌};
+ghost use Rattle.rules.specs.Kinds.{Names};
 ghost use Rattle.entries.specs.Guides.{guide_numbered, guide_tables, guide-lawful};
 
 use faults::Refusal;
 use rules::figures::{Base, Figures};
-use rules::kinds::{Kind, Size};
+use rules::investees::Financing;
+use rules::kinds::{Kind, UnknownNumber};
 use rules::national::National;
 use rules::pudong::Pudong;
 use rules::rule::Rule;
@@ -27,26 +29,30 @@ impl Rule for Guide {
         }
     }
 
-    fn reason(&self, kind: Kind, size: Size, days: u64, exposure: u64, closing: u64) -> u8 {
+    fn reason(&self, financing: Financing) -> u8 {
         match self {
-            Guide::National => National.reason(kind, size, days, exposure, closing),
-            Guide::Pudong => Pudong.reason(kind, size, days, exposure, closing),
+            Guide::National => National.reason(financing),
+            Guide::Pudong => Pudong.reason(financing),
+        }
+    }
+}
+
+// The guide of a number, as files have it.
+impl TryFrom<u64> for Guide {
+    type Error = UnknownNumber;
+
+    ghost try_from_gives = { λ number r. Names (guide_numbered number) number r };
+
+    fn try_from(number: u64) -> Result<Guide, UnknownNumber> {
+        match number {
+            1 => Ok(Guide::National),
+            2 => Ok(Guide::Pudong),
+            _ => Err(UnknownNumber(number)),
         }
     }
 }
 
 impl Guide {
-    // The guide of a number, as files have it.
-    pub fn numbered(number: u64) -> Option<Guide>
-        ensures { result ≡ guide_numbered number }
-    {
-        match number {
-            1 => Some(Guide::National),
-            2 => Some(Guide::Pudong),
-            _ => None,
-        }
-    }
-
     // The guide for as long as the program runs, so that a book of any lifetime can borrow it.
     pub fn lent(self) -> &'static Guide
         ensures { result.now ≡ self }

@@ -21,6 +21,7 @@ const NO_TERM: Activity = Activity {
 };
 
 // The terms of an energy bill in their order, as far as they matter.
+// A table with a count and no ArrayVec: methods are copied, and an ArrayVec is not Copy and wants a Default of its items.
 #[derive(Clone, Copy)]
 pub struct Bill {
     terms: [Activity; MOST_HELD],

@@ -21,22 +21,24 @@ struct Row {
     closing: u64,
 }
 
-fn fields(row: Row) -> InvesteeFields
-    ensures { result ≡ fields_of row }
-{
-    let figures = Figures {
-        investment: 8_000,
-        revenue: 10_000,
-        total_assets: 25_000,
-        initial_value: row.initial_value,
-    };
-    InvesteeFields {
-        id: row.id,
-        kind: row.kind,
-        sector: 0,
-        size: row.size,
-        days: row.days,
-        figures,
+impl Row {
+    fn fields(self) -> InvesteeFields
+        ensures { result ≡ fields_of self }
+    {
+        let figures = Figures {
+            investment: 8_000,
+            revenue: 10_000,
+            total_assets: 25_000,
+            initial_value: self.initial_value,
+        };
+        InvesteeFields {
+            id: self.id,
+            kind: self.kind,
+            sector: 0,
+            size: self.size,
+            days: self.days,
+            figures,
+        }
     }
 }
 
@@ -190,7 +192,7 @@ const TABLE: [Row; 16] = [
 
 fn main(rt: HostRuntime) -> io::Result<()> {
     for row in TABLE {
-        match fields(row).checked() {
+        match row.fields().checked() {
             Ok(investee) => rt.println(line(rt.alloc(), investee, row.exposure, row.closing)?)?,
             Err(fault) => {
                 let id = row.id;

@@ -3,7 +3,8 @@ ghost use Rattle.own_rules.specs.ByAssets.{asset_tables, assets-lawful};
 
 use faults::Refusal;
 use rules::figures::{Base, Figures};
-use rules::kinds::{Kind, Size};
+use rules::investees::Financing;
+use rules::kinds::Kind;
 use rules::rule::Rule;
 
 #[derive(Clone, Copy)]
@@ -18,7 +19,7 @@ impl Rule for ByAssets {
         Base::given(figures.total_assets)
     }
 
-    fn reason(&self, _kind: Kind, _size: Size, _days: u64, _exposure: u64, _closing: u64) -> u8 {
+    fn reason(&self, _financing: Financing) -> u8 {
         0
     }
 }

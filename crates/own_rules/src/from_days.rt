@@ -3,7 +3,8 @@ ghost use Rattle.own_rules.specs.FromDays.{from_days_tables, from-days-lawful};
 
 use faults::Refusal;
 use rules::figures::{Base, Figures};
-use rules::kinds::{Kind, Size};
+use rules::investees::Financing;
+use rules::kinds::Kind;
 use rules::rule::Rule;
 
 // It divides by revenue, or by whatever the exposures add up to where revenue is not given.
@@ -21,7 +22,7 @@ impl<'a> Rule for FromDays<'a> {
         Base::given_or_whole(figures.revenue)
     }
 
-    fn reason(&self, _kind: Kind, _size: Size, days: u64, _exposure: u64, _closing: u64) -> u8 {
-        if days < *self.least { 1 } else { 0 }
+    fn reason(&self, financing: Financing) -> u8 {
+        if financing.days < *self.least { 1 } else { 0 }
     }
 }

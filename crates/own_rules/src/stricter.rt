@@ -3,7 +3,8 @@ ghost use Rattle.own_rules.specs.Stricter.{stricter_tables, stricter-lawful};
 
 use faults::Refusal;
 use rules::figures::{Base, Figures};
-use rules::kinds::{Kind, Size};
+use rules::investees::Financing;
+use rules::kinds::Kind;
 use rules::rule::Rule;
 
 #[derive_where(Clone, Copy)]
@@ -21,10 +22,10 @@ impl<'a, R: Rule> Rule for Stricter<'a, R> {
         self.rule.base(kind, figures)
     }
 
-    fn reason(&self, kind: Kind, size: Size, days: u64, exposure: u64, closing: u64) -> u8 {
-        if days < self.least {
+    fn reason(&self, financing: Financing) -> u8 {
+        if financing.days < self.least {
             return 5;
         }
-        self.rule.reason(kind, size, days, exposure, closing)
+        self.rule.reason(financing)
     }
 }

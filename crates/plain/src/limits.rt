@@ -23,17 +23,17 @@ pub const MOST_EXPOSURE: u64 = 9_000_000;
 pub fn branch_out_of_range(branch: u64) -> bool
     ensures { result ≡ branch_out_of_range branch }
 {
-    branch < 1 || branch > BRANCHES
+    !(1..=BRANCHES).contains(&branch)
 }
 
 // Whether the branch, the month or the balance of a post or an amendment is out of range.
 pub fn entry_out_of_range(branch: u64, month: u64, balance: u64) -> bool
     ensures { result ≡ entry_out_of_range branch month balance }
 {
-    branch_out_of_range(branch) || ((month < 1 || month > MONTHS) || balance > MOST_BALANCE)
+    branch_out_of_range(branch) || !(1..=MONTHS).contains(&month) || balance > MOST_BALANCE
 }
 
-// Whether a book of so many investees takes no other.
+// Whether a book of so many investees takes no other. This and the next are one comparison each, shorter than a function over any limit.
 pub fn full_of_investees(held: usize) -> bool
     ensures { result ≡ nat_le most_investees held }
 {

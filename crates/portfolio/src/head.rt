@@ -38,8 +38,8 @@ pub fn read_head(line: &[u8]) -> Result<Head, Stop>
         Err(misread) => Err(wrong_field(HEAD_LINE, misread)),
         Ok(numbers) => {
             let [investees, posts, guide] = numbers;
-            match Guide::numbered(guide) {
-                Some(guide) if within_limits(investees, posts) => Ok(Head {
+            match Guide::try_from(guide) {
+                Ok(guide) if within_limits(investees, posts) => Ok(Head {
                     investees: investees as usize,
                     posts: posts as usize,
                     guide,

@@ -9,6 +9,7 @@ use Rattle.rules.specs.declared.kinds.Kind.{Kind}
 use Rattle.rules.specs.declared.kinds.Size.{Size}
 use Rattle.rules.specs.declared.investees.InvesteeFields.{InvesteeFields}
 use Rattle.rules.specs.declared.investees.Profile.{Profile}
+use Rattle.rules.specs.declared.investees.Financing.{Financing}
 use Rattle.rules.specs.Kinds.{kind_number, kind_numbered, size_number, size_numbered}
 use Rattle.rules.specs.Figures.{WithinLimits, within_limits}
 
@@ -70,3 +71,7 @@ pub record SameNumbers (f : InvesteeFields) (p : Profile) : Type 0 where
 pub record Checked (f : InvesteeFields) (r : Result Profile Fault) : Type 0 where
   pub accepted : WithinRanges f → (p : Profile) × (r ≡ Ok p) × SameNumbers f p
   pub refused : (WithinRanges f → ⊥) → r ≡ out_of_range
+
+-- how an investee is financed
+abbrev pub financing_of : Profile → ℕ → ℕ → Financing
+financing_of x exposure closing = record { kind = x.kind; size = x.size; days = x.days; exposure = exposure; closing = closing }

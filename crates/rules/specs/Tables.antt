@@ -7,6 +7,7 @@ use Rattle.faults.specs.declared.Refusal.TheVariants.{KindNotCovered, FigureNotG
 use Rattle.rules.specs.declared.figures.Base.{Base}
 use Rattle.rules.specs.declared.figures.Base.TheVariants.{Amount, Whole}
 use Rattle.rules.specs.declared.figures.Figures.{Figures}
+use Rattle.rules.specs.declared.investees.Financing.{Financing}
 use Rattle.rules.specs.declared.kinds.Kind.{Kind}
 use Rattle.rules.specs.declared.kinds.Size.{Size}
 use Rattle.rules.specs.Figures.{most_figure, WithinLimits}
@@ -14,6 +15,10 @@ use Rattle.rules.specs.Figures.{most_figure, WithinLimits}
 pub record Tables : Type 0 where
   pub bases : Kind → Figures → Result Base Refusal
   pub reasons : Kind → Size → ℕ → ℕ → ℕ → ℕ
+
+-- the reason of an investee as it is financed
+abbrev pub reason_for : Tables → Financing → ℕ
+reason_for t f = t.reasons f.kind f.size f.days f.exposure f.closing
 
 -- an amount that a figure can be, whatever the exposures add up to, or one of a rule's two refusals
 abbrev pub BaseInRange : Result Base Refusal → Type 0

@@ -1,6 +1,6 @@
 // An investee as a caller sends it, and as rules see it.
 ghost use Rattle.std.specs.Prelude.{◌≡◌};
-ghost use Rattle.rules.specs.Investees.{numbers_in_range, profile_of, Checked};
+ghost use Rattle.rules.specs.Investees.{numbers_in_range, profile_of, financing_of, Checked};
 
 use crate::figures::Figures;
 use crate::kinds::{Kind, Size};
@@ -37,40 +37,26 @@ pub struct Profile {
     pub figures: Figures,
 }
 
+// How an investee is financed: for what, of which size it is, for how many days, with what exposure over the year and
+// what closing balance. Rules decide by it whether they count the investee.
+#[derive(Clone, Copy, Debug, PartialEq, Eq)]
+pub struct Financing {
+    pub kind: Kind,
+    pub size: Size,
+    pub days: u64,
+    pub exposure: u64,
+    pub closing: u64,
+}
+
 impl InvesteeFields {
     // Whether the fields that are no kind and no size are within their ranges.
     fn numbers_in_range(self) -> bool
         ensures { result ≡ numbers_in_range self }
     {
-        1 <= self.id
-            && self.id <= LAST_ID
+        (1..=LAST_ID).contains(&self.id)
             && self.sector <= LAST_SECTOR
             && self.days <= MOST_DAYS
             && self.figures.within_limits()
-    }
-
-    fn profile(self) -> Result<Profile, Fault>
-        ensures { result ≡ profile_of self }
-    {
-        match (Kind::numbered(self.kind), Size::numbered(self.size)) {
-            (Some(kind), Some(size)) if self.numbers_in_range() => Ok(Profile {
-                id: self.id as u32,
-                kind,
-                sector: self.sector as u8,
-                size,
-                days: self.days as u16,
-                figures: self.figures,
-            }),
-            _ => Err(Fault::plain(Refusal::FieldOutOfRange)),
-        }
-    }
-
-    // The same, with what it says of the ranges.
-    fn profile_within_ranges(self) -> Result<Profile, Fault>
-        ensures value { result ≡ profile_of self }
-        ensures ranges { Checked self result }
-    {
-        self.profile()
     }
 
     // The investee that the fields describe, unless one is outside its range.
@@ -78,6 +64,33 @@ impl InvesteeFields {
         ensures value { result ≡ profile_of self }
         ensures ranges { Checked self result }
     {
-        self.profile_within_ranges()
+        let kind = Kind::try_from(self.kind)?;
+        let size = Size::try_from(self.size)?;
+        if !self.numbers_in_range() {
+            return Err(Fault::plain(Refusal::FieldOutOfRange));
+        }
+        Ok(Profile {
+            id: self.id as u32,
+            kind,
+            sector: self.sector as u8,
+            size,
+            days: self.days as u16,
+            figures: self.figures,
+        })
+    }
+}
+
+impl Profile {
+    // How it is financed, by its exposure over the year and its closing balance.
+    pub fn financed(self, exposure: u64, closing: u64) -> Financing
+        ensures { result ≡ financing_of self exposure closing }
+    {
+        Financing {
+            kind: self.kind,
+            size: self.size,
+            days: u64::from(self.days),
+            exposure,
+            closing,
+        }
     }
 }

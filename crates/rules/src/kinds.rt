@@ -1,6 +1,23 @@
 // What is financed, and how large the investee is.
 ghost use Rattle.std.specs.Prelude.{◌≡◌, Some};
-ghost use Rattle.rules.specs.Kinds.{kind_number, kind_numbered, size_number, size_numbered};
+ghost use Rattle.faults.specs.Refusals.{fault};
+ghost use Rattle.faults.specs.declared.Refusal.TheVariants.{FieldOutOfRange};
+ghost use Rattle.rules.specs.Kinds.{kind_number, kind_numbered, size_number, size_numbered, Names};
+
+use faults::{Fault, Refusal};
+
+// A number that names nothing of what is asked for, as no kind or no size.
+#[derive(Clone, Copy, Debug, PartialEq, Eq)]
+pub struct UnknownNumber(pub u64);
+
+// A field whose number names nothing is out of its range.
+impl From<UnknownNumber> for Fault {
+    ghost from_gives = { λ _ f. f ≡ fault FieldOutOfRange 0 0 };
+
+    fn from(_number: UnknownNumber) -> Fault {
+        Fault::plain(Refusal::FieldOutOfRange)
+    }
+}
 
 // What the money is lent for, or how.
 #[derive(Clone, Copy, Debug, PartialEq, Eq)]
@@ -13,27 +30,30 @@ pub enum Kind {
     Bond = 6,
 }
 
-impl Kind {
-    // The number that files and reports have for the kind.
-    pub fn number(self) -> u8
-        ensures value { result ≡ kind_number self }
-        ensures back { kind_numbered result ≡ Some self }
-    {
-        self as u8
-    }
+// The number that files and reports have for a kind.
+impl From<Kind> for u8 {
+    ghost from_gives = { λ kind n. (n ≡ kind_number kind) × (kind_numbered n ≡ Some kind) };
 
-    // The kind of a number from 1 to 6.
-    pub fn numbered(number: u64) -> Option<Kind>
-        ensures { result ≡ kind_numbered number }
-    {
+    fn from(kind: Kind) -> u8 {
+        kind as u8
+    }
+}
+
+// The kind of a number from 1 to 6.
+impl TryFrom<u64> for Kind {
+    type Error = UnknownNumber;
+
+    ghost try_from_gives = { λ number r. Names (kind_numbered number) number r };
+
+    fn try_from(number: u64) -> Result<Kind, UnknownNumber> {
         match number {
-            1 => Some(Kind::Project),
-            2 => Some(Kind::PropertyDevelopment),
-            3 => Some(Kind::PropertyPurchase),
-            4 => Some(Kind::Vehicle),
-            5 => Some(Kind::GeneralLoan),
-            6 => Some(Kind::Bond),
-            _ => None,
+            1 => Ok(Kind::Project),
+            2 => Ok(Kind::PropertyDevelopment),
+            3 => Ok(Kind::PropertyPurchase),
+            4 => Ok(Kind::Vehicle),
+            5 => Ok(Kind::GeneralLoan),
+            6 => Ok(Kind::Bond),
+            _ => Err(UnknownNumber(number)),
         }
     }
 }
@@ -48,26 +68,29 @@ pub enum Size {
     Person = 5,
 }
 
-impl Size {
-    // The number that files have for the size.
-    pub fn number(self) -> u8
-        ensures value { result ≡ size_number self }
-        ensures back { size_numbered result ≡ Some self }
-    {
-        self as u8
-    }
+// The number that files have for a size.
+impl From<Size> for u8 {
+    ghost from_gives = { λ size n. (n ≡ size_number size) × (size_numbered n ≡ Some size) };
 
-    // The size of a number from 1 to 5.
-    pub fn numbered(number: u64) -> Option<Size>
-        ensures { result ≡ size_numbered number }
-    {
+    fn from(size: Size) -> u8 {
+        size as u8
+    }
+}
+
+// The size of a number from 1 to 5.
+impl TryFrom<u64> for Size {
+    type Error = UnknownNumber;
+
+    ghost try_from_gives = { λ number r. Names (size_numbered number) number r };
+
+    fn try_from(number: u64) -> Result<Size, UnknownNumber> {
         match number {
-            1 => Some(Size::Large),
-            2 => Some(Size::Medium),
-            3 => Some(Size::Small),
-            4 => Some(Size::Micro),
-            5 => Some(Size::Person),
-            _ => None,
+            1 => Ok(Size::Large),
+            2 => Ok(Size::Medium),
+            3 => Ok(Size::Small),
+            4 => Ok(Size::Micro),
+            5 => Ok(Size::Person),
+            _ => Err(UnknownNumber(number)),
         }
     }
 }

@@ -1,11 +1,13 @@
 // The guide of the People's Bank of China.
 ghost use Rattle.std.specs.Prelude.{◌≡◌, not, Decides, ◌==◌};
 ghost use Rattle.rules.specs.Reasons.{FirstReason};
-ghost use Rattle.rules.specs.National.{national_bases, national_reasons, national_tables, NationalDivides, NationalApplies, NationalLeavesOut};
+ghost use Rattle.rules.specs.Tables.{reason_for};
+ghost use Rattle.rules.specs.National.{national_bases, national_tables, NationalDivides, NationalApplies, NationalLeavesOut};
 ghost use Rattle.rules.specs.Lawful.{national-lawful};
 
 use crate::figures::{Base, Figures};
-use crate::kinds::{Kind, Size};
+use crate::investees::Financing;
+use crate::kinds::Kind;
 use crate::reasons::{LEAST_DAYS, LEAST_LOAN};
 use crate::rule::Rule;
 use faults::Refusal;
@@ -13,17 +15,6 @@ use faults::Refusal;
 // It covers projects and general loans.
 #[derive(Clone, Copy, Debug, PartialEq, Eq)]
 pub struct National;
-
-fn first_reason(kind: Kind, size: Size, days: u64, exposure: u64, closing: u64) -> u8
-    ensures { result ≡ national_reasons kind size days exposure closing }
-{
-    match (kind.number(), size.number()) {
-        (1 | 5, _) if days < LEAST_DAYS => 1,
-        (5, _) if exposure < LEAST_LOAN => 2,
-        (5, 3..=5) => 3,
-        _ => 0,
-    }
-}
 
 impl Rule for National {
     ghost tables = { λ _. national_tables };
@@ -41,20 +32,25 @@ impl Rule for National {
         }
     }
 
-    fn reason(&self, kind: Kind, size: Size, days: u64, exposure: u64, closing: u64) -> u8
-        ensures value { result ≡ national_reasons kind size days exposure closing }
-        ensures first { FirstReason (NationalApplies kind size days exposure closing) result }
+    fn reason(&self, financing: Financing) -> u8
+        ensures value { result ≡ reason_for national_tables financing }
+        ensures first { FirstReason (NationalApplies financing.kind financing.size financing.days financing.exposure financing.closing) result }
     {
-        first_reason(kind, size, days, exposure, closing)
+        match (u8::from(financing.kind), u8::from(financing.size)) {
+            (1 | 5, _) if financing.days < LEAST_DAYS => 1,
+            (5, _) if financing.exposure < LEAST_LOAN => 2,
+            (5, 3..=5) => 3,
+            _ => 0,
+        }
     }
 }
 
 impl National {
-    // Whether the guide leaves an investee out.
-    pub fn leaves_out(self, kind: Kind, size: Size, days: u64, exposure: u64, closing: u64) -> bool
-        ensures value { result ≡ not (national_reasons kind size days exposure closing == 0) }
-        ensures when { Decides result (NationalLeavesOut kind size days exposure closing) }
+    // Whether the guide leaves an investee out. Each guide has its own theorem of when, so this stands once for each.
+    pub fn leaves_out(self, financing: Financing) -> bool
+        ensures value { result ≡ not (reason_for national_tables financing == 0) }
+        ensures when { Decides result (NationalLeavesOut financing.kind financing.size financing.days financing.exposure financing.closing) }
     {
-        first_reason(kind, size, days, exposure, closing) != 0
+        self.reason(financing) != 0
     }
 }

@@ -1,6 +1,6 @@
 // The guides at both sides of each limit, and fields at the ends of their ranges.
 use crate::figures::{Base, Figures};
-use crate::investees::InvesteeFields;
+use crate::investees::{Financing, InvesteeFields};
 use crate::kinds::{Kind, Size};
 use crate::national::National;
 use crate::pudong::Pudong;
@@ -9,10 +9,14 @@ use faults::Refusal;
 
 // The reasons of National and of Pudong for a kind, a size, days, exposure and closing balance.
 fn reasons(kind: Kind, size: Size, days: u64, exposure: u64, closing: u64) -> (u8, u8) {
-    (
-        National.reason(kind, size, days, exposure, closing),
-        Pudong.reason(kind, size, days, exposure, closing),
-    )
+    let financing = Financing {
+        kind,
+        size,
+        days,
+        exposure,
+        closing,
+    };
+    (National.reason(financing), Pudong.reason(financing))
 }
 
 #[test]
