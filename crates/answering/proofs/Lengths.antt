@@ -1,10 +1,12 @@
 -- The line that says where a file stops fits into every buffer for a page.
-use Rattle.std.proofs.Common.{◌≡◌, ℕ, ◌+◌, ◌^◌, ◌<◌, ◌≤◌, List, [], ◌∷◌, ◌++◌, length, drop, Some, None, decimal, ap, ◌∙◌, arith}
+use Rattle.std.proofs.Common.{◌≡◌, ℕ, ◌+◌, ◌^◌, ◌<◌, ◌≤◌, List, [], ◌∷◌, ◌++◌, length, take, drop, Some, None, Option, decimal, refl, ◌∙◌, arith}
+use Rattle.std.specs.Option.{IsSome}
 use Rattle.std.specs.List.{AllByRecursion}
 use Rattle.std.proofs.lemmas.Fmt.{length-decimal-le}
 use Rattle.std.proofs.lemmas.List.{length-append}
 use Rattle.entries.specs.declared.stop.Stop.{Stop}
 use Rattle.faults.specs.Refusals.{number_of}
+use Rattle.lines.specs.declared.writing.Writer.{Writer}
 use Rattle.lines.specs.Writing.{Wrote}
 use Rattle.pages.specs.Placed.{room}
 use Rattle.answering.specs.Buffers.{placed_text}
@@ -21,15 +23,23 @@ stop-short : (s : Stop) → AllByRecursion (λ n. n < 2 ^ 64) (stop_numbers s) �
 stop-short s fits =
     omega (arith, four (decimal s.line) (decimal (number_of s.fault.refusal)) (decimal s.fault.place) (decimal s.fault.source), twenty s.line fits.0, twenty (number_of s.fault.refusal) fits.1.0, twenty s.fault.place fits.1.1.0, twenty s.fault.source fits.1.1.1.0)
 
-module _ (buffer after : List ℕ) (s : Stop) (long : room ≤ length buffer) (fits : AllByRecursion (λ n. n < 2 ^ 64) (stop_numbers s)) where
-  pub stop-fits : Wrote buffer 0 (stop_line s) after None → ⊥
-  stop-fits wrote = omega (arith, wrote.told, stop-short s fits, long)
+-- the line where a writer at the start of a buffer with room for every page wrote it
+pub record StopLine (s : Stop) (was now : Writer) (r : Option (Unit {0})) : Type 0 where
+  pub some : IsSome r
+  pub bytes : now.at ≡ length (stop_line s)
+  pub within : now.at ≤ room
+  pub placed : now.buffer.now ≡ placed_text (stop_line s) was.buffer.now
 
-  pub stop-bytes : (end : ℕ) → Wrote buffer 0 (stop_line s) after (Some end) → end ≡ length (stop_line s)
-  stop-bytes end wrote = omega (arith, wrote.told.0)
-
-  pub stop-within : (end : ℕ) → Wrote buffer 0 (stop_line s) after (Some end) → end ≤ room
-  stop-within end wrote = omega (arith, wrote.told.0, stop-short s fits)
-
-  pub stop-placed : (end : ℕ) → Wrote buffer 0 (stop_line s) after (Some end) → after ≡ placed_text (stop_line s) buffer
-  stop-placed end wrote = let none : 0 + length (stop_line s) ≡ length (stop_line s) = omega arith in wrote.told.2 ∙ ap (λ n. stop_line s ++ drop n buffer) none
+pub stop-written : {was now : Writer} (s : Stop) (r : Option (Unit {0})) → was.at ≡ 0 → room ≤ length was.buffer.now → AllByRecursion (λ n. n < 2 ^ 64) (stop_numbers s)
+    → Wrote was (stop_line s) now r → StopLine s was now r
+stop-written {was} {now} s None start long fits wrote = absurd (omega (arith, wrote.told, start, stop-short s fits, long))
+stop-written {was} {now} s (Some u) start long fits wrote =
+    let w = wrote.told in
+    let bytes : now.at ≡ length (stop_line s) = omega (arith, w.0, start) in
+    let rest : was.at + length (stop_line s) ≡ length (stop_line s) = omega (arith, start) in
+    record {
+      some = refl;
+      bytes = bytes;
+      within = omega (arith, bytes, stop-short s fits);
+      placed = w.2 ∙ (λ i. take (start i) was.buffer.now ++ (stop_line s ++ drop (rest i) was.buffer.now));
+    }

@@ -7,7 +7,7 @@ ghost use Rattle.answering.specs.Buffers.{placed_text};
 ghost use Rattle.answering.specs.Stops.{stop_numbers, stop_line};
 
 use entries::stop::Stop;
-use lines::writing::{put, put_numbers};
+use lines::writing::Writer;
 
 // The four numbers of a stop.
 fn stop_numbers(stop: Stop) -> [u64; 4]
@@ -16,20 +16,20 @@ fn stop_numbers(stop: Stop) -> [u64; 4]
 {
     [
         stop.line as u64,
-        stop.fault.refusal.number() as u64,
-        stop.fault.place as u64,
-        stop.fault.source as u64,
+        u64::from(stop.fault.refusal.number()),
+        u64::from(stop.fault.place),
+        u64::from(stop.fault.source),
     ]
 }
 
 // `X line refusal place source`
-fn put_stop(buffer: &mut [u8], stop: Stop) -> Option<usize>
-    ensures line { Wrote buffer.old 0 (stop_line stop) buffer.new result }
+fn put_stop(page: &mut Writer<'_>, stop: Stop) -> Option<()>
+    ensures line { Wrote page.old (stop_line stop) page.new result }
     ensures fits { AllByRecursion (λ n. n < 2 ^ 64) (stop_numbers stop) }
 {
     let numbers = stop_numbers(stop);
-    let at = put(buffer, 0, b"X ")?;
-    put_numbers(buffer, at, &numbers)
+    page.put(b"X ")?;
+    page.put_numbers(&numbers)
 }
 
 // Where a file stops, in a buffer with room for every page.
@@ -39,8 +39,7 @@ pub(crate) fn write_stop(buffer: &mut [u8], stop: Stop) -> usize
     ensures within { result ≤ room }
     ensures buffer { buffer.new ≡ placed_text (stop_line stop) buffer.old }
 {
-    match put_stop(buffer, stop) {
-        Some(end) => end,
-        None => unreachable(),
-    }
+    let mut page = Writer { buffer, at: 0 };
+    put_stop(&mut page, stop).unwrap();
+    page.at
 }

@@ -1,5 +1,5 @@
 -- Lines of numbers as they are printed, and that exactly these are accepted.
-use Rattle.std.specs.Prelude.{◌≡◌, ℕ, ◌-◌, ◌^◌, ◌<◌, ◌≤◌, List, [], ◌∷◌, ◌++◌, map, length, Some, None, Ok, decimal, Option, Result}
+use Rattle.std.specs.Prelude.{◌≡◌, ℕ, ◌-◌, ◌^◌, ◌<◌, ◌≤◌, List, [], ◌∷◌, ◌++◌, map, length, Ok, decimal, Result}
 use Rattle.std.specs.List.{between, AllByRecursion}
 use Rattle.lines.specs.declared.fields.LineError.{LineError}
 use Rattle.lines.specs.Fields.{line_of}
@@ -35,8 +35,6 @@ pub record FitOneLine (ns : List ℕ) : Type 0 where
   pub digits : AllByRecursion (λ n. n < 10 ^ 13) ns
   pub short : length (printed ns) ≤ 511
 
--- a line of these numbers that stands in a buffer between two places reads, without its line feed, as these numbers;
--- nothing is said where none was written
-abbrev pub ReadsBack : List ℕ → List ℕ → ℕ → Option ℕ → Type 0
-ReadsBack ns buffer from None = Unit {0}
-ReadsBack ns buffer from (Some end) = line_of (length ns) (between from (end - 1) buffer) ≡ Ok ns
+-- a line of these numbers that stands in a buffer between two places reads, without its line feed, as these numbers
+abbrev pub ReadsBack : List ℕ → List ℕ → ℕ → ℕ → Type 0
+ReadsBack ns buffer from end = line_of (length ns) (between from (end - 1) buffer) ≡ Ok ns

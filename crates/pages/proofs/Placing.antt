@@ -1,7 +1,9 @@
 -- A book's page where it was written.
-use Rattle.std.proofs.Common.{◌≡◌, ℕ, ◌-◌, ◌^◌, ◌<◌, ◌≤◌, List, ◌++◌, length, drop, Some, None, Option, ap, ◌∙◌, subst, zero-add, arith}
+use Rattle.std.proofs.Common.{◌≡◌, ◌+◌, ◌-◌, ◌^◌, ◌<◌, ◌≤◌, List, ◌++◌, length, take, drop, Some, None, Option, refl, ap, ◌∙◌, subst, arith}
+use Rattle.std.specs.Option.{IsSome}
 use Rattle.std.specs.List.{AllByRecursion}
 use Rattle.rules.specs.Tables.{Tables, Lawful}
+use Rattle.lines.specs.declared.writing.Writer.{Writer}
 use Rattle.lines.specs.Writing.{Wrote}
 use Rattle.plain.specs.declared.answers.BookTotal.{BookTotal}
 use Rattle.plain.specs.declared.answers.InvesteeAccount.{InvesteeAccount}
@@ -29,23 +31,25 @@ module _ (t : Tables) (lawful : Lawful t) (p : PlainBook) (kept : KeptByEveryRun
   within : AllByRecursion (λ a. a.id < 2 ^ 32) (given accounts) → length (page_text t p) ≤ room
   within ids = room-suffices t lawful p kept (subst (AllByRecursion (λ a. a.id < 2 ^ 32)) held ids)
 
-  pub record Page (buffer after : List ℕ) (end : ℕ) : Type 0 where
-    pub bytes : end ≡ length (page_text t p)
-    pub buffer-after : after ≡ placed t p buffer
-    pub short : end ≤ room
+  -- what a writer at the start of a buffer with room for every page holds then
+  pub record Page (was now : Writer) (r : Option (Unit {0})) : Type 0 where
+    pub some : IsSome r
+    pub bytes : now.at ≡ length (page_text t p)
+    pub buffer_after : now.buffer.now ≡ placed t p was.buffer.now
+    pub short : now.at ≤ room
 
-  pub page-written : (buffer after : List ℕ) (end : ℕ) → AllByRecursion (λ a. a.id < 2 ^ 32) (given accounts) → Wrote buffer 0 (page_of (given accounts) sheets total.all.kilograms.emissions) after (Some end) → Page buffer after end
-  page-written buffer after end ids wrote =
-      let w = (subst (λ text. Wrote buffer 0 text after (Some end)) same-page wrote).told in
-      let long : end ≡ length (page_text t p) = w.0 ∙ zero-add (length (page_text t p)) in
+  pub page-written : {was now : Writer} (r : Option (Unit {0})) → was.at ≡ 0 → room ≤ length was.buffer.now → AllByRecursion (λ a. a.id < 2 ^ 32) (given accounts)
+      → Wrote was (page_of (given accounts) sheets total.all.kilograms.emissions) now r → Page was now r
+  page-written {was} {now} None start long ids wrote =
+      let none = (subst (λ text. Wrote was text now None) same-page wrote).told in
+      absurd (omega (arith, none, start, within ids))
+  page-written {was} {now} (Some u) start long ids wrote =
+      let w = (subst (λ text. Wrote was text now (Some u)) same-page wrote).told in
+      let bytes : now.at ≡ length (page_text t p) = omega (arith, w.0, start) in
+      let rest : was.at + length (page_text t p) ≡ length (page_text t p) = omega (arith, start) in
       record {
-        bytes = long;
-        buffer-after = w.2 ∙ ap (λ n. page_text t p ++ drop n buffer) (zero-add (length (page_text t p)));
-        short = omega (arith, within ids, long);
+        some = refl;
+        bytes = bytes;
+        buffer_after = w.2 ∙ (λ i. take (start i) was.buffer.now ++ (page_text t p ++ drop (rest i) was.buffer.now));
+        short = omega (arith, within ids, bytes);
       }
-
-  -- 8,192 bytes are never too few
-  pub page-fits : (buffer after : List ℕ) → room ≤ length buffer → AllByRecursion (λ a. a.id < 2 ^ 32) (given accounts) → Wrote buffer 0 (page_of (given accounts) sheets total.all.kilograms.emissions) after None → ⊥
-  page-fits buffer after long ids wrote =
-      let none = (subst (λ text. Wrote buffer 0 text after None) same-page wrote).told in
-      omega (arith, none, within ids)

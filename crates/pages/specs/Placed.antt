@@ -14,6 +14,9 @@ use Rattle.pages.specs.Page.{page_text}
 abbrev pub room : ℕ
 room = 8192
 
+abbrev pub room_result : List ℕ → Result (Unit {0}) Fault
+room_result buffer = cond (nat_lt (length buffer) room) (Err (fault PageTooShort 0 0)) (Ok tt)
+
 -- how long the page is
 abbrev pub page_result : Tables → PlainBook → List ℕ → Result ℕ Fault
 page_result t p buffer = cond (nat_lt (length buffer) room) (Err (fault PageTooShort 0 0)) (Ok (length (page_text t p)))

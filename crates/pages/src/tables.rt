@@ -5,14 +5,15 @@ ghost use Rattle.lines.specs.Writing.{Wrote};
 ghost use Rattle.pages.specs.Page.{account_line, branch_lines, given, page_of};
 
 use crate::writers::{put_account, put_branch, put_head, put_total};
+use lines::writing::Writer;
 use plain::answers::{InvesteeAccount, Kilograms};
 
 // How many accounts a table holds. Reading an id shows that it has 32 bits, so that a page has room.
-fn held(accounts: &[Option<InvesteeAccount>]) -> u64
+fn held(accounts: &[Option<InvesteeAccount>]) -> usize
     ensures count { result ≡ length (given accounts.now) }
     ensures ids { AllByRecursion (λ a. a.id < 2 ^ 32) (given accounts.now) }
 {
-    let mut n: u64 = 0;
+    let mut n = 0;
     for account in accounts {
         let Some(account) = account else {
             continue;
@@ -24,18 +25,17 @@ fn held(accounts: &[Option<InvesteeAccount>]) -> u64
 }
 
 // The lines of the investees, in the order of the table.
-fn put_accounts(buffer: &mut [u8], at: usize, accounts: &[Option<InvesteeAccount>]) -> Option<usize>
-    requires { at ≤ length buffer.old }
-    ensures { Wrote buffer.old at (flat_map account_line (given accounts.now)) buffer.new result }
+fn put_accounts(page: &mut Writer<'_>, accounts: &[Option<InvesteeAccount>]) -> Option<()>
+    requires { page.old.at ≤ length page.old.buffer.now }
+    ensures { Wrote page.old (flat_map account_line (given accounts.now)) page.new result }
 {
-    let mut end = at;
     for account in accounts {
         let Some(account) = account else {
             continue;
         };
-        end = put_account(buffer, end, *account)?;
+        put_account(page, *account)?;
     }
-    Some(end)
+    Some(())
 }
 
 // The branch whose sheet stands at a place of the table.
@@ -47,32 +47,31 @@ fn branch_at(place: usize) -> u64
 }
 
 // The lines of the branches that have a sheet, in ascending order.
-fn put_sheets(buffer: &mut [u8], at: usize, sheets: &[Option<Kilograms>]) -> Option<usize>
-    requires { at ≤ length buffer.old }
-    ensures { Wrote buffer.old at (branch_lines 1 sheets.now) buffer.new result }
+fn put_sheets(page: &mut Writer<'_>, sheets: &[Option<Kilograms>]) -> Option<()>
+    requires { page.old.at ≤ length page.old.buffer.now }
+    ensures { Wrote page.old (branch_lines 1 sheets.now) page.new result }
 {
-    let mut end = at;
     for (i, sheet) in sheets.iter().enumerate() {
         let Some(sheet) = sheet else {
             continue;
         };
-        end = put_branch(buffer, end, branch_at(i), *sheet)?;
+        put_branch(page, branch_at(i), *sheet)?;
     }
-    Some(end)
+    Some(())
 }
 
-// The whole page, from the start of the buffer.
+// The whole page.
 pub(crate) fn put_page(
-    buffer: &mut [u8],
+    page: &mut Writer<'_>,
     accounts: &[Option<InvesteeAccount>],
     sheets: &[Option<Kilograms>],
     total: i64,
-) -> Option<usize>
-    ensures page { Wrote buffer.old 0 (page_of (given accounts.now) sheets.now total) buffer.new result }
+) -> Option<()>
+    ensures page { Wrote page.old (page_of (given accounts.now) sheets.now total) page.new result }
     ensures ids { AllByRecursion (λ a. a.id < 2 ^ 32) (given accounts.now) }
 {
-    let at = put_head(buffer, 0, held(accounts))?;
-    let at = put_accounts(buffer, at, accounts)?;
-    let at = put_sheets(buffer, at, sheets)?;
-    put_total(buffer, at, total)
+    put_head(page, held(accounts))?;
+    put_accounts(page, accounts)?;
+    put_sheets(page, sheets)?;
+    put_total(page, total)
 }

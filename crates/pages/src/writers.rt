@@ -1,70 +1,51 @@
 // The lines of a page.
-ghost use Rattle.std.specs.Prelude.{◌≡◌, [], ◌∷◌, ◌++◌, decimal};
-ghost use Rattle.std.specs.Fmt.{signed_decimal};
+ghost use Rattle.std.specs.Prelude.{[], ◌∷◌, ◌++◌};
 ghost use Rattle.lines.specs.Writing.{Wrote};
 ghost use Rattle.pages.specs.Page.{head_line, account_line, branch_line, total_line};
 
-use lines::writing::{put, put_byte, put_number, put_numbers, put_signed};
-use plain::answers::{InvesteeAccount, InvesteeTotal, Kilograms};
+use itoa::Integer;
+use lines::writing::Writer;
+use plain::answers::{InvesteeAccount, Kilograms};
 
 // A number, and the byte that ends its field.
-fn put_field(buffer: &mut [u8], at: usize, n: u64, end: u8) -> Option<usize>
-    ensures { Wrote buffer.old at (decimal n ++ end ∷ []) buffer.new result }
+fn put_field<I: Integer>(page: &mut Writer<'_>, n: I, end: u8) -> Option<()>
+    ensures { Wrote page.old (I.text n ++ end ∷ []) page.new result }
 {
-    let at = put_number(buffer, at, n)?;
-    put_byte(buffer, at, end)
-}
-
-// The same of kilograms.
-fn put_kilograms(buffer: &mut [u8], at: usize, kilograms: i64, end: u8) -> Option<usize>
-    ensures { Wrote buffer.old at (signed_decimal kilograms ++ end ∷ []) buffer.new result }
-{
-    let at = put_signed(buffer, at, kilograms)?;
-    put_byte(buffer, at, end)
+    page.put_number(n)?;
+    page.put_byte(end)
 }
 
 // `FE n`
-pub(crate) fn put_head(buffer: &mut [u8], at: usize, investees: u64) -> Option<usize>
-    ensures { Wrote buffer.old at (head_line investees) buffer.new result }
+pub(crate) fn put_head(page: &mut Writer<'_>, investees: usize) -> Option<()>
+    ensures { Wrote page.old (head_line investees) page.new result }
 {
-    let at = put(buffer, at, b"FE ")?;
-    put_field(buffer, at, investees, b'\n')
-}
-
-// The two fields after the kilograms.
-fn last_fields(total: InvesteeTotal) -> [u64; 2]
-    ensures { result ≡ total.reason ∷ total.grade ∷ [] }
-{
-    [total.reason as u64, total.grade as u64]
+    page.put(b"FE ")?;
+    put_field(page, investees, b'\n')
 }
 
 // `id kilograms reason grade`
-pub(crate) fn put_account(buffer: &mut [u8], at: usize, account: InvesteeAccount) -> Option<usize>
-    ensures { Wrote buffer.old at (account_line account) buffer.new result }
+pub(crate) fn put_account(page: &mut Writer<'_>, account: InvesteeAccount) -> Option<()>
+    ensures { Wrote page.old (account_line account) page.new result }
 {
-    let at = put_field(buffer, at, account.id as u64, b' ')?;
-    let at = put_kilograms(buffer, at, account.total.kilograms.emissions, b' ')?;
-    put_numbers(buffer, at, &last_fields(account.total))
+    put_field(page, account.id, b' ')?;
+    put_field(page, account.total.kilograms.emissions, b' ')?;
+    put_field(page, account.total.reason, b' ')?;
+    put_field(page, account.total.grade, b'\n')
 }
 
 // `B branch kilograms`
-pub(crate) fn put_branch(
-    buffer: &mut [u8],
-    at: usize,
-    branch: u64,
-    sheet: Kilograms,
-) -> Option<usize>
-    ensures { Wrote buffer.old at (branch_line branch sheet) buffer.new result }
+pub(crate) fn put_branch(page: &mut Writer<'_>, branch: u64, sheet: Kilograms) -> Option<()>
+    ensures { Wrote page.old (branch_line branch sheet) page.new result }
 {
-    let at = put(buffer, at, b"B ")?;
-    let at = put_field(buffer, at, branch, b' ')?;
-    put_kilograms(buffer, at, sheet.emissions, b'\n')
+    page.put(b"B ")?;
+    put_field(page, branch, b' ')?;
+    put_field(page, sheet.emissions, b'\n')
 }
 
 // `T total`
-pub(crate) fn put_total(buffer: &mut [u8], at: usize, total: i64) -> Option<usize>
-    ensures { Wrote buffer.old at (total_line total) buffer.new result }
+pub(crate) fn put_total(page: &mut Writer<'_>, total: i64) -> Option<()>
+    ensures { Wrote page.old (total_line total) page.new result }
 {
-    let at = put(buffer, at, b"T ")?;
-    put_kilograms(buffer, at, total, b'\n')
+    page.put(b"T ")?;
+    put_field(page, total, b'\n')
 }

@@ -6,4 +6,4 @@ use Rattle.pages.proofs.tables.put_accounts.Given as given'
 
 abbrev pub invariant-loop-account : given'.invariant-loop-account
 invariant-loop-account l =
-    Left l.initial.buffer l.initial.end (flat_map account_line (given l.accounts)) l.buffer l.end (flat_map account_line (given (drop l.account-index l.accounts))) × (l.end ≤ length l.buffer)
+    Left l.initial.page (flat_map account_line (given l.accounts)) l.page (flat_map account_line (given (drop l.account-index l.accounts))) × (l.page.at ≤ length l.page.buffer.now)

@@ -5,4 +5,4 @@ use Rattle.pages.proofs.tables.put_sheets.Given as goal
 
 abbrev pub invariant-loop-i : goal.invariant-loop-i
 invariant-loop-i l =
-    Left l.initial.buffer l.initial.end (branch_lines 1 l.sheets) l.buffer l.end (branch_lines (l.i + 1) (drop l.i l.sheets)) × (l.end ≤ length l.buffer)
+    Left l.initial.page (branch_lines 1 l.sheets) l.page (branch_lines (l.i + 1) (drop l.i l.sheets)) × (l.page.at ≤ length l.page.buffer.now)
