@@ -1,4 +1,5 @@
 // Cases of sources, of own operations, and of a file.
+use crate::failure::Failure;
 use answering::answer::answer;
 use factors::Activity;
 use grading::hundredths::Hundredths;
@@ -9,11 +10,10 @@ use sources::estimate::{Estimate, EstimateFigures};
 use sources::physical::Physical;
 use sources::reported::Reported;
 use sources::source::Source;
-use std::io;
 
 const FILE: &str = "1 2 1\n7 5 0 2 200 0 10000 0 0 0 0 0 0 R 1001 1\n1 7 1\n2 7 1\n60000\n60000\n";
 
-fn energy_bill(rt: &HostRuntime) -> io::Result<()> {
+fn energy_bill(rt: &HostRuntime) -> Result<(), Failure> {
     let power = Activity {
         row: 6,
         quantity: 1_000,
@@ -25,14 +25,12 @@ fn energy_bill(rt: &HostRuntime) -> io::Result<()> {
     let bill = Physical {
         terms: &[power, diesel],
     };
-    if let Ok(reading) = bill.read() {
-        let kilograms = reading.kilograms;
-        println!(rt; "energy bill of 1000 kWh and 1 litre: {kilograms} kg")?;
-    }
+    let kilograms = bill.read()?.kilograms;
+    println!(rt; "energy bill of 1000 kWh and 1 litre: {kilograms} kg")?;
     Ok(())
 }
 
-fn estimate(rt: &HostRuntime) -> io::Result<()> {
+fn estimate(rt: &HostRuntime) -> Result<(), Failure> {
     let figures = EstimateFigures {
         report_output: 100,
         base_output: 120,
@@ -42,43 +40,30 @@ fn estimate(rt: &HostRuntime) -> io::Result<()> {
         kilograms: 1_050,
         mark: 1,
     };
-    if let Ok(reading) = (Estimate { figures, below }).read() {
-        let kilograms = reading.kilograms;
-        println!(rt; "estimate of 100 over 120 of 1000 kg, less 1050: {kilograms} kg")?;
-    }
+    let kilograms = Estimate { figures, below }.read()?.kilograms;
+    println!(rt; "estimate of 100 over 120 of 1000 kg, less 1050: {kilograms} kg")?;
     Ok(())
 }
 
-pub fn readings(rt: &HostRuntime) -> io::Result<()> {
+pub fn readings(rt: &HostRuntime) -> Result<(), Failure> {
     energy_bill(rt)?;
     estimate(rt)
 }
 
 // 348 kWh come to 199 kg, and 1 kWh to 1 kg.
-pub fn mean_grade(rt: &HostRuntime) -> io::Result<()> {
+pub fn mean_grade(rt: &HostRuntime) -> Result<(), Failure> {
     let mut items = [Item::new(6, 348, 1), Item::new(6, 1, 2)];
-    if let Ok(totals) = work_out(&mut items) {
-        let grade = Hundredths(totals.grade);
-        println!(rt; "mean grade of 199 at 1 and 1 at 2: {grade}")?;
-    }
+    let grade = Hundredths(work_out(&mut items)?.grade);
+    println!(rt; "mean grade of 199 at 1 and 1 at 2: {grade}")?;
     Ok(())
 }
 
 // The page of a file, in one line.
-pub fn two_branches(rt: &HostRuntime) -> io::Result<()> {
+pub fn two_branches(rt: &HostRuntime) -> Result<(), Failure> {
     let mut buffer = [0; ROOM];
-    let Ok(length) = answer(rt.alloc(), FILE.as_bytes(), &mut buffer)? else {
-        return Ok(());
-    };
-    let Ok(page) = std::str::from_utf8(&buffer[0..length]) else {
-        return Ok(());
-    };
-    print!(rt; "two branches:")?;
-    for (place, line) in page.lines().enumerate() {
-        if place > 0 {
-            print!(rt; " /")?;
-        }
-        print!(rt; " {line}")?;
-    }
-    println!(rt; "")
+    let length = answer(rt.alloc(), FILE.as_bytes(), &mut buffer)??;
+    let page = std::str::from_utf8(&buffer[..length])?;
+    let lines = page.trim_end().replace(rt.alloc(), '\n', " / ")?;
+    println!(rt; "two branches: {lines}")?;
+    Ok(())
 }

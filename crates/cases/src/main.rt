@@ -2,9 +2,12 @@
 #![tactic(auto)]
 
 mod bills;
+mod failure;
 mod lending;
 
-fn main(rt: HostRuntime) -> std::io::Result<()> {
+use failure::Failure;
+
+fn main(rt: HostRuntime) -> Result<(), Failure> {
     lending::thirds(&rt)?;
     lending::pairs(&rt)?;
     lending::limits(&rt)?;
