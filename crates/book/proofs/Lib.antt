@@ -1,4 +1,5 @@
 pub mod Propositions
+pub mod Finding
 pub mod Books
 pub mod Outcomes
 pub mod Openings

@@ -1,8 +1,11 @@
 -- That every product of a reading fits, from what a book keeps.
-use Rattle.std.proofs.Common.{◌≡◌, ℕ, ◌+◌, ◌*◌, ◌≤◌, max, List, [], ◌∷◌, map, nat_abs, Some, Ok, Err, Result, sym, subst, arith}
+use Rattle.std.proofs.Common.{◌≡◌, ℕ, ◌+◌, ◌*◌, ◌≤◌, max, List, [], ◌∷◌, map, nat_abs, None, Some, Ok, Err, ok_or, Option, Result, sym, ap, subst, arith}
 use Rattle.std.specs.List.{AllByRecursion}
 use Rattle.std.proofs.ByRecursion.{All-weaker}
+use Rattle.faults.specs.Refusals.{fault}
+use Rattle.faults.specs.declared.Fault.{Fault}
 use Rattle.faults.specs.declared.Refusal.{Refusal}
+use Rattle.faults.specs.declared.Refusal.TheVariants.{NotOpen}
 use Rattle.rules.specs.Figures.{most_figure}
 use Rattle.rules.specs.Months.{months}
 use Rattle.rules.specs.Tables.{Tables, Lawful, BaseInRange}
@@ -59,11 +62,17 @@ module _ (t : Tables) (lawful : Lawful t) (qs : List PlainPosition) (x : PlainIn
   pub fair-whole : (s : Standing) → s ≡ standing_of t qs x → Fair s (whole_turn s) x
   fair-whole s is = subst (λ (s : Standing). Fair s (whole_turn s) x) (sym is) (fair (whole_turn (standing_of t qs x)) (omega arith))
 
-pub within-book : (p : PlainBook) → KeptByEveryRun p → (id : ℕ) (x : PlainInvestee) → investee_of id p ≡ Some x → WithinBook p.positions x
-within-book p kept id x e = record {
-  in_range = first-all InvesteeInRange (has_id id) p.investees x e kept.investees_in_range;
-  exposure_within_limit = first-all (λ y. exposure_to y p.positions ≤ most_exposure) (has_id id) p.investees x e kept.exposures_within_limit;
-}
+pub within-book : (p : PlainBook) → KeptByEveryRun p → (id : ℕ) (x : PlainInvestee) → Ok x ≡ ok_or (investee_of id p) (fault NotOpen 0 0) → WithinBook p.positions x
+within-book p kept id x e =
+    let found = ok_of_ok_or _ _ x e in
+    record {
+      in_range = first-all InvesteeInRange (has_id id) p.investees x found kept.investees_in_range;
+      exposure_within_limit = first-all (λ y. exposure_to y p.positions ≤ most_exposure) (has_id id) p.investees x found kept.exposures_within_limit;
+    }
+  where
+    ok_of_ok_or : (o : Option PlainInvestee) (f : Fault) (x : PlainInvestee) → Ok x ≡ ok_or o f → o ≡ Some x
+    ok_of_ok_or None f x e = let z : ◌≡◌ {A = ℕ} 0 1 = cc in absurd (omega arith)
+    ok_of_ok_or (Some y) f x e = let same : x ≡ y = cc in ap Some (sym same)
 
 -- ---- each investee of a book
 

@@ -1,10 +1,9 @@
--- The two halves of an opening: what the book and its rule say of the fields, and what the source says. Restatements and
--- reductions ask where their investee stands in place of the first.
-use Rattle.std.specs.Prelude.{ℕ, cond, length, pos, Some, None, Ok, Err, Option, Result, int_lt, nat_le}
+-- The two halves of an opening: what the book and its rule say of the fields, and what the source says.
+use Rattle.std.specs.Prelude.{cond, length, pos, Ok, Err, Result, int_lt, nat_le}
 use Rattle.faults.specs.Refusals.{fault}
 use Rattle.faults.specs.declared.Fault.{Fault}
 use Rattle.faults.specs.declared.Refusal.{Refusal}
-use Rattle.faults.specs.declared.Refusal.TheVariants.{ReadingBelowZero, AlreadyOpen, InvesteesFull, NotOpen}
+use Rattle.faults.specs.declared.Refusal.TheVariants.{ReadingBelowZero, AlreadyOpen, InvesteesFull}
 use Rattle.rules.specs.Investees.{profile_of}
 use Rattle.rules.specs.Tables.{Tables}
 use Rattle.rules.specs.declared.figures.Base.{Base}
@@ -34,8 +33,3 @@ taken_as t p (Err f) = Err f
 
 abbrev pub taken_by : Tables → PlainBook → InvesteeFields → Result Profile Fault
 taken_by t p fields = taken_as t p (profile_of fields)
-
--- the place of an investee that has to be open
-abbrev pub open_at : Option ℕ → Result ℕ Fault
-open_at (Some k) = Ok k
-open_at None = Err (fault NotOpen 0 0)

@@ -1,7 +1,6 @@
 // Opening investees.
 ghost use Rattle.std.specs.Prelude.{◌≡◌, length, nat_le};
 ghost use Rattle.plain.specs.Limits.{most_investees};
-ghost use Rattle.plain.specs.PlainBook.{is_open};
 ghost use Rattle.plain.specs.Runs.{after, answer};
 ghost use Rattle.plain.specs.Steps.{enter};
 ghost use Rattle.book.specs.Openings.{emissions_in, taken_by};
@@ -29,13 +28,6 @@ pub(super) fn emissions<S: Source>(source: &S) -> Result<Reading, Fault>
 }
 
 impl<'r, R: Rule> Book<'r, R> {
-    // Whether an investee of an id is open.
-    fn is_open(&self, id: u64) -> bool
-        ensures { result ≡ is_open id (plain self.now) }
-    {
-        self.investee(id).is_some()
-    }
-
     // Whether there is no room for another investee.
     fn is_full(&self) -> bool
         ensures { result ≡ nat_le most_investees (length (plain self.now).investees) }
@@ -54,10 +46,10 @@ impl<'r, R: Rule> Book<'r, R> {
         if self.is_full() {
             return Err(Fault::plain(Refusal::InvesteesFull));
         }
-        match self.rule.base(profile.kind, profile.figures) {
-            Ok(_) => Ok(profile),
-            Err(refusal) => Err(Fault::plain(refusal)),
-        }
+        self.rule
+            .base(profile.kind, profile.figures)
+            .map_err(Fault::plain)?;
+        Ok(profile)
     }
 
     // Enters an investee with a reading of its emissions.

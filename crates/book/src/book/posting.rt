@@ -167,9 +167,7 @@ impl<'r, R: Rule> Book<'r, R> {
         if entry_out_of_range(branch, month, balance) {
             return Err(Fault::plain(Refusal::EntryOutOfRange));
         }
-        let Some(row) = self.investee(id) else {
-            return Err(Fault::plain(Refusal::NotOpen));
-        };
+        let row = self.investee(id)?;
         if bond_outside_closing(row.profile.kind, month) {
             return Err(Fault::plain(Refusal::BondOutsideClosingMonth));
         }

@@ -45,20 +45,16 @@ impl<'r, R: Rule> Book<'r, R> {
         if branch_out_of_range(branch) {
             return Err(Fault::plain(Refusal::EntryOutOfRange));
         }
-        match self.investee(id) {
-            Some(row) => Ok(part_of(self, row, branch)),
-            None => Err(Fault::plain(Refusal::NotOpen)),
-        }
+        let row = self.investee(id)?;
+        Ok(part_of(self, row, branch))
     }
 
     // What falls to all branches for one investee, the reason for which it is left out, or 0, and its grade.
     pub fn total(&self, id: u64) -> Result<InvesteeTotal, Fault>
         ensures { told Total result ≡ answer (R.tables self.now.rule.now) (plain self.now) (ask_total id) }
     {
-        match self.investee(id) {
-            Some(row) => Ok(total_of(self, row)),
-            None => Err(Fault::plain(Refusal::NotOpen)),
-        }
+        let row = self.investee(id)?;
+        Ok(total_of(self, row))
     }
 
     // Every investee with its total, in the order of the openings, and None in the places after them.

@@ -1,16 +1,21 @@
-use Rattle.std.proofs.Common.{vec_items, sym, arith}
+use Rattle.std.proofs.Common.{rules, tests, ◌≡◌, ok_or, Option, Some, None, find, option_map, vec_items, refl, ap, ◌∙◌, ap₂}
+use Rattle.std.proofs.lemmas.Iterator.{YieldsList-from_slice}
+use Rattle.std.proofs.lemmas.Iterator.Search.{find_from_yields_List}
+use Rattle.faults.specs.declared.Fault.{Fault}
 use Rattle.plain.specs.PlainBook.{has_id}
-use Rattle.book.specs.Rows.{plain_investee, plain_investees}
-use Rattle.positions.proofs.Places.{first-nowhere, row_within, row-found}
+use Rattle.book.specs.declared.rows.InvesteeRow.{InvesteeRow}
+use Rattle.book.specs.Entries.{plain_result}
+use Rattle.book.specs.Rows.{plain_investee}
+use Rattle.book.proofs.Finding.{find-view}
 use Rattle.book.proofs.book.Book.investee.Goals as goal
 
-pub index-requires : goal.index-requires
-index-requires g c =
-    let investees = c.args.self.now.investees in
-    omega (arith, row_within plain_investee (has_id c.args.id) (vec_items investees) c.in-Some.at c.in-Some.ensures, investees.ok.0)
+as-plain : (o : Option InvesteeRow) (f : Fault) → plain_result (ok_or o f) ≡ ok_or (option_map plain_investee o) f
+as-plain None f = refl
+as-plain (Some x) f = refl
 
-pub returns-in-Some : goal.returns-in-Some
-returns-in-Some g c = sym (row-found plain_investee (has_id c.args.id) (vec_items c.args.self.now.investees) c.in-Some.at c.in-Some.ensures c.index.result.now c.index.ensures)
-
-pub returns-in-None : goal.returns-in-None
-returns-in-None g c = sym (first-nowhere (has_id c.args.id) (plain_investees (vec_items c.args.self.now.investees)) c.in-None.ensures)
+pub returns : goal.returns
+returns g c =
+    let found = find_from_yields_List (λ row. has_id c.args.id (plain_investee row)) _ _ c.find.result c.find.ensures.ran (YieldsList-from_slice c.deref.result.now (cc)) (λ x b q k. search (rules, tests)) in
+    let read = c.copied.ensures ∙ found ∙ ap (find (λ row. has_id c.args.id (plain_investee row))) c.deref.ensures.value in
+    ap plain_result c.ok_or.ensures.value ∙ as-plain c.copied.result c.plain.result
+    ∙ ap₂ ok_or (ap (option_map plain_investee) read ∙ find-view plain_investee (has_id c.args.id) (vec_items c.args.self.now.investees)) c.plain.ensures

@@ -1,11 +1,13 @@
-use Rattle.std.proofs.Common.{◌≡◌, is_some, Some, None, Option, refl, ap, ◌∙◌}
-use Rattle.book.specs.declared.rows.InvesteeRow.{InvesteeRow}
-use Rattle.book.specs.Rows.{plain_found}
+use Rattle.std.proofs.Common.{rules, tests, vec_items, ap, ◌∙◌}
+use Rattle.std.specs.List.{list_any}
+use Rattle.std.proofs.lemmas.Iterator.{YieldsList-from_slice}
+use Rattle.std.proofs.lemmas.Iterator.Search.{any_from_yields_List}
+use Rattle.plain.specs.PlainBook.{has_id}
+use Rattle.book.specs.Rows.{plain_investee}
+use Rattle.book.proofs.Finding.{any-view}
 use Rattle.book.proofs.book.Book.is_open.Goals as goal
 
-found-as-plain : (o : Option InvesteeRow) → is_some o ≡ is_some (plain_found o)
-found-as-plain None = refl
-found-as-plain (Some x) = refl
-
 pub returns : goal.returns
-returns g c = c.is_some.ensures ∙ found-as-plain c.investee.result ∙ ap is_some c.investee.ensures
+returns g c =
+    any_from_yields_List (λ row. has_id c.args.id (plain_investee row)) _ _ _ c.any.ensures.ran (YieldsList-from_slice c.deref.result.now (cc)) (λ x b q k. search (rules, tests))
+    ∙ ap (list_any (λ row. has_id c.args.id (plain_investee row))) c.deref.ensures.value ∙ any-view plain_investee (has_id c.args.id) (vec_items c.args.self.now.investees)

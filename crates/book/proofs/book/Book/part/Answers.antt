@@ -1,4 +1,3 @@
-use Rattle.std.proofs.Common.{sym}
 use Rattle.book.specs.Rows.{plain_investee}
 use Rattle.book.specs.View.{plain}
 use Rattle.book.proofs.Propositions.{kept_of}
@@ -8,4 +7,4 @@ use Rattle.book.proofs.book.Book.part.Goals as goal
 pub part_of-requires : goal.part_of-requires
 part_of-requires g c =
     let book = c.args.self.now in
-    within-book (plain book) (kept_of (plain book) book.kept) c.args.id (plain_investee c.in-Some.row) (sym c.in-Some.ensures)
+    within-book (plain book) (kept_of (plain book) book.kept) c.args.id (plain_investee c.in_ok-row.row) c.in_ok-row.ensures

@@ -1,22 +1,13 @@
-use Rattle.std.proofs.Common.{sym, ap, ◌∙◌}
+use Rattle.std.proofs.Common.{rules, tests, ok_or, position, vec_items, ap, ◌∙◌, ap₂}
+use Rattle.std.proofs.lemmas.Iterator.{YieldsList-from_slice}
+use Rattle.std.proofs.lemmas.Iterator.Search.{position_from_yields_List}
 use Rattle.plain.specs.PlainBook.{has_id}
-use Rattle.positions.specs.Places.{first_place}
-use Rattle.book.specs.Rows.{plain_investee, plain_investees}
-use Rattle.positions.proofs.Places.{walk-on, walk-finds, walk_ends}
+use Rattle.book.specs.Rows.{plain_investee}
+use Rattle.book.proofs.Finding.{position-view}
 use Rattle.book.proofs.book.Book.place.Goals as goal
-
-pub loop-k-preserved : goal.loop-k-preserved
-loop-k-preserved g c =
-    walk-on plain_investee (has_id c.args.id) c.as_slice-rows.result.now c.loop-k.k _ c.loop-k-test.true
-    (sym c.has_id.ensures ∙ c.if-has_id.false) c.loop-k.invariant
 
 pub returns : goal.returns
 returns g c =
-    walk_ends plain_investee (has_id c.args.id) c.as_slice-rows.result.now c.loop-k.k c.loop-k-test.false c.loop-k.invariant
-    ∙ ap (λ l. first_place (has_id c.args.id) (plain_investees l)) c.as_slice-rows.ensures.value
-
-pub returns-then-has_id : goal.returns-then-has_id
-returns-then-has_id g c =
-    walk-finds plain_investee (has_id c.args.id) c.as_slice-rows.result.now c.loop-k.k _ c.loop-k-test.true
-    (sym c.has_id.ensures ∙ c.if-has_id.true) c.loop-k.invariant
-    ∙ ap (λ l. first_place (has_id c.args.id) (plain_investees l)) c.as_slice-rows.ensures.value
+    let found = position_from_yields_List (λ row. has_id c.args.id (plain_investee row)) _ _ c.position.result c.position.ensures.ran (YieldsList-from_slice c.deref.result.now (cc)) (λ x b q k. search (rules, tests)) in
+    c.ok_or.ensures.value
+    ∙ ap₂ ok_or (found ∙ ap (position (λ row. has_id c.args.id (plain_investee row))) c.deref.ensures.value ∙ position-view plain_investee (has_id c.args.id) (vec_items c.args.self.now.investees)) c.plain.ensures

@@ -1,48 +1,43 @@
-use Rattle.std.proofs.Common.{◌≡◌, ◌<◌, ◌++◌, length, take, drop, sym, refl, ap, ◌∙◌, subst, arith}
+use Rattle.std.proofs.Common.{◌≡◌, ◌<◌, length, take, sym, ap, ◌∙◌, subst, arith}
+use Rattle.std.proofs.lemmas.List.{get_or-take, length-take}
 use Rattle.plain.specs.EveryRun.{ReachedByARun}
-use Rattle.plain.specs.Runs.{after, answer, answered, run}
+use Rattle.plain.specs.Runs.{after, answer, run}
 use Rattle.book.specs.Calls.{step_of, steps_of}
 use Rattle.book.specs.View.{plain}
 use Rattle.book.proofs.Propositions.{kept_of}
 use Rattle.book.proofs.Runs.{sofar-more, kilograms-here, kilograms-from-the-start, reached-more}
 use Rattle.book.proofs.book.Book.run.Goals as goal
 
-pub loop-i-init : goal.loop-i-init
-loop-i-init g c = (refl, record { book = refl; said = refl })
-
 pub loop-i-preserved : goal.loop-i-preserved
 loop-i-preserved g c =
     let same = c.loop-i.invariant.0 in
     let p = plain c.loop-i.self in
     let m = g.S.Source.meaning in
-    let call = c.index-calls-i.result in
+    let call = c.call-item.result in
     let t = ap (λ r. g.R.Rule.tables r.now) same in
-    let one : c.loop-i.i < length c.args.calls.now = omega (arith, c.min-count.ensures) in
-    let two : c.loop-i.i < length c.args.answers.now = omega (arith, c.min-count.ensures) in (
+    let one : c.loop-i.i < length c.args.calls.now = omega (arith, c.min-count.ensures, length-take c.min-count.result c.args.calls.now) in
+    let two : c.loop-i.i < length c.args.answers.now = omega (arith, c.min-count.ensures, length-take c.min-count.result c.args.calls.now) in (
       c.apply-answer.ensures.rule ∙ same,
-      rw c.write_answer.ensures (sofar-more _ m _ _ _ c.loop-i.i p (plain c.apply-answer.new.self) c.loop-i.answers call c.apply-answer.result one two c.index-calls-i.is
+      sofar-more _ m _ _ _ c.loop-i.i p (plain c.apply-answer.new.self) c.loop-i.answers call c.apply-answer.result one two (c.call-item.is ∙ get_or-take c.min-count.result c.args.calls.now c.loop-i.i call (omega (arith, length-take c.min-count.result c.args.calls.now)))
           (c.apply-answer.ensures.book ∙ ap (λ u. after u p (step_of m call)) t)
           (c.apply-answer.ensures.told ∙ ap (λ u. answer u p (step_of m call)) t)
-          c.loop-i.invariant.1),
+          c.loop-i.invariant.1,
     )
 
-pub returns : goal.returns
-returns g c =
+pub returns-clause-kilograms : goal.returns-clause-kilograms
+returns-clause-kilograms g c =
+    let from = plain c.args.self.now in
+    kilograms-here (g.R.Rule.tables c.args.self.now.rule.now) (g.R.Rule.lawful c.args.self.now.rule.now) g.S.Source.meaning g.S.Source.within from (take c.min-count.result c.args.calls.now) (kept_of from c.args.self.now.kept)
+
+pub returns-clause-history : goal.returns-clause-history
+returns-clause-history g c =
+    kilograms-from-the-start (g.R.Rule.tables c.args.self.now.rule.now) (g.R.Rule.lawful c.args.self.now.rule.now) g.S.Source.meaning g.S.Source.within (plain c.args.self.now) (take c.min-count.result c.args.calls.now)
+
+pub returns-clause-reached : goal.returns-clause-reached
+returns-clause-reached g c h =
     let t = g.R.Rule.tables c.args.self.now.rule.now in
-    let lawful = g.R.Rule.lawful c.args.self.now.rule.now in
     let from = plain c.args.self.now in
     let m = g.S.Source.meaning in
-    let within = g.S.Source.within in
-    let all = c.args.calls.now in
-    let end : c.loop-i.i ≡ c.min-count.result = omega arith in
-    let calls = take c.min-count.result all in
-    let book = c.loop-i.invariant.1.book ∙ ap (λ n. run t from (steps_of m (take n all))) end in
-    record {
-      count = c.min-count.ensures;
-      book = book;
-      told = c.loop-i.invariant.1.said ∙ ap (λ n. answered t from (steps_of m (take n all)) ++ drop n c.args.answers.now) end;
-      rule = c.loop-i.invariant.0;
-      kilograms = kilograms-here t lawful m within from calls (kept_of from c.args.self.now.kept);
-      history = kilograms-from-the-start t lawful m within from calls;
-      reached = λ h. subst (λ r. ReachedByARun (g.R.Rule.tables r.now) (plain c.loop-i.self)) (sym c.loop-i.invariant.0) (reached-more t lawful m within from calls (plain c.loop-i.self) book h);
-    }
+    let end : c.loop-i.i ≡ c.min-count.result = omega (arith, c.min-count.ensures, length-take c.min-count.result c.args.calls.now) in
+    let book = c.loop-i.invariant.1.book ∙ ap (λ n. run t from (steps_of m (take n c.args.calls.now))) end in
+    subst (λ r. ReachedByARun (g.R.Rule.tables r.now) (plain c.loop-i.self)) (sym c.loop-i.invariant.0) (reached-more t (g.R.Rule.lawful c.args.self.now.rule.now) m g.S.Source.within from (take c.min-count.result c.args.calls.now) (plain c.loop-i.self) book h)
