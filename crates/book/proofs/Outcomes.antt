@@ -33,10 +33,8 @@ module _ (t : Tables) (p : PlainBook) (c : Step) where
       by None = same
       by (Some f) = refl
 
-  -- what a caller of a call that changes the book is told
-  pub told-declined : (r : Result (Unit {0}) Fault) (f : Fault) → r ≡ Err f → declined t p c ≡ Some f → told done r ≡ answer t p c
-  told-declined r f e d = ap (told done) e ∙ sym (answer-declined f d)
-
--- the exit of a `?` passes a fault on as it is
-pub passed_on : {X : Type 0} (r : Result X Fault) (f : Fault) → IsErrAnd r (λ y. y ≡ f) → r ≡ Err f
-passed_on r f h = let p = err_from_is_err_and r h in p.1 ∙ ap Err p.2
+  -- a call that changes the book and fails, where the exit of a `?` passes the fault on as it is
+  pub failed : (f : Fault) → declined t p c ≡ Some f → (r : Result (Unit {0}) Fault) → IsErrAnd r (λ y. y ≡ f) → (p ≡ after t p c) × (told done r ≡ answer t p c)
+  failed f d r h =
+      let is = err_from_is_err_and r h in
+      (sym (after-declined f d), ap (told done) (is.1 ∙ ap Err is.2) ∙ sym (answer-declined f d))

@@ -7,20 +7,21 @@ use Rattle.faults.specs.declared.Fault.{Fault}
 use Rattle.faults.specs.declared.Refusal.TheVariants.{EntryOutOfRange, BondOutsideClosingMonth, MonthAlreadyPosted, MonthNotPosted, PositionsFull}
 use Rattle.rules.specs.Months.{months}
 use Rattle.rules.specs.Tables.{Tables}
-use Rattle.plain.specs.Changes.{changed, amended, posted}
+use Rattle.plain.specs.Changes.{amended, posted}
 use Rattle.plain.specs.Exposures.{exposure_to}
 use Rattle.plain.specs.Kept.{KeptByEveryRun}
 use Rattle.plain.specs.Limits.{most_exposure}
 use Rattle.plain.specs.PlainBook.{PlainInvestee, PlainPosition, PlainBook, with_positions, id_of, has_id, investee_of, position_of, is_posted}
 use Rattle.plain.specs.Refused.{refuse, if_open, entry_out_of_range, bond_outside_closing, no_room_for, too_much_lent, declined}
-use Rattle.plain.specs.Runs.{unless, after}
-use Rattle.plain.specs.Steps.{Step, post, amend}
+use Rattle.plain.specs.Runs.{after}
+use Rattle.plain.specs.Steps.{post, amend}
 use Rattle.plain.proofs.Accepted.{EntryInRange, entry-within}
 use Rattle.plain.proofs.Lists.{first_passes, first-all}
 use Rattle.positions.specs.Entries.{balance_in, can_enter}
 use Rattle.positions.specs.Years.{in_year}
-use Rattle.book.specs.Entries.{entry_on, entry_for, EntryFor, counted, post_fault, amend_fault}
+use Rattle.book.specs.Entries.{entry_on, entry_for, EntryFor, counted, failing, post_fault, amend_fault}
 use Rattle.book.proofs.Entries.{lent-amended, lent-posted}
+use Rattle.book.proofs.Outcomes.{after-accepted}
 
 -- ---- the tests that they share
 
@@ -101,42 +102,40 @@ module _ (p : PlainBook) (b m v : ℕ) (x : PlainInvestee) (entry : EntryFor p b
       let range = entry-within b m v entry.in_range in
       and_from (leb 1 m) (leb m months) (le-leb 1 m range.month-from) (le-leb m months range.month-to)
 
-  pub entry-enters : (t : Tables) → None ≡ post_fault t p x b m v → can_enter b (id_of x) m p.positions ≡ true
+  pub entry-enters : (t : Tables) → post_fault t p x b m v ≡ None → can_enter b (id_of x) m p.positions ≡ true
   entry-enters t e = and_from (in_year m) (not (no_room_for b (id_of x) p.positions)) entry-in-year (by (is_posted b (id_of x) m p.positions) (no_room_for b (id_of x) p.positions) e)
     where
-      by : (taken full : Bool) → None ≡ refuse taken MonthAlreadyPosted (refuse full PositionsFull (too_much_lent t x (posted b (id_of x) m v p.positions))) → not full ≡ true
+      by : (taken full : Bool) → refuse taken MonthAlreadyPosted (refuse full PositionsFull (too_much_lent t x (posted b (id_of x) m v p.positions))) ≡ None → not full ≡ true
       by true full e = let z : ◌≡◌ {A = ℕ} 0 1 = cc in absurd (omega arith)
       by false true e = let z : ◌≡◌ {A = ℕ} 0 1 = cc in absurd (omega arith)
       by false false e = refl
 
+-- ---- what a test that may fail says
+
+pub refused : (o : Option Fault) (f : Fault) → Err f ≡ failing o → o ≡ Some f
+refused None f e = let z : ◌≡◌ {A = ℕ} 0 1 = cc in absurd (omega arith)
+refused (Some g) f e = let same : f ≡ g = cc in ap Some (sym same)
+
+pub allowed : (o : Option Fault) → Ok tt ≡ failing o → o ≡ None
+allowed None e = refl
+allowed (Some g) e = let z : ◌≡◌ {A = ℕ} 0 1 = cc in absurd (omega arith)
+
 -- ---- the book after the call
 
-module _ (t : Tables) (p : PlainBook) (b id m v : ℕ) (x : PlainInvestee) (e : Ok x ≡ entry_for p b id m v) (fault : Option Fault) (qs : List PlainPosition) where
-  after-fault : (call : Step) (next : List PlainPosition) → declined t p call ≡ fault → changed p call ≡ with_positions p next → qs ≡ unless fault next (λ _. p.positions) → with_positions p qs ≡ after t p call
-  after-fault call next d is-next e = ap (with_positions p) e ∙ by fault ∙ sym (ap (λ (o : Option Fault). unless o (changed p call) (λ f. p)) d)
-    where
-      by : (o : Option Fault) → with_positions p (unless o next (λ _. p.positions)) ≡ unless o (changed p call) (λ f. p)
-      by None = sym is-next
-      by (Some f) = refl
-
-  unless-same : (a c : List PlainPosition) → (None ≡ fault → a ≡ c) → unless fault a (λ _. p.positions) ≡ unless fault c (λ _. p.positions)
-  unless-same a c h = by fault refl
-    where
-      by : (o : Option Fault) → o ≡ fault → unless o a (λ _. p.positions) ≡ unless o c (λ _. p.positions)
-      by None o = h o
-      by (Some f) o = refl
-
-  pub book-posted : fault ≡ post_fault t p x b m v → qs ≡ unless fault (cond (can_enter b (id_of x) m p.positions) (posted b (id_of x) m v p.positions) p.positions) (λ _. p.positions) → with_positions p qs ≡ after t p (post b id m v)
-  book-posted is now =
+module _ (t : Tables) (p : PlainBook) (b id m v : ℕ) (x : PlainInvestee) (e : Ok x ≡ entry_for p b id m v) (qs : List PlainPosition) where
+  pub book-posted : post_fault t p x b m v ≡ None → (entered : Bool) → entered ≡ can_enter b (id_of x) m p.positions → qs ≡ cond entered (posted b (id_of x) m v p.positions) p.positions → with_positions p qs ≡ after t p (post b id m v)
+  book-posted none entered is now =
       let entry = entry-for p b id m v x e in
-      after-fault (post b id m v) (posted b (id_of x) m v p.positions) (post-entered p b id m v t x e ∙ sym is) (ap (λ j. with_positions p (posted b j m v p.positions)) (sym entry.1))
-      (now ∙ unless-same _ _ (λ o. cond-true (can_enter b (id_of x) m p.positions) _ _ (entry-enters p b m v x entry.0 t (o ∙ is))))
+      ap (with_positions p) (now ∙ cond-true entered _ _ (is ∙ entry-enters p b m v x entry.0 t none))
+      ∙ ap (λ j. with_positions p (posted b j m v p.positions)) entry.1
+      ∙ sym (after-accepted t p (post b id m v) (post-entered p b id m v t x e ∙ none))
 
-  pub book-amended : fault ≡ amend_fault t p x b m v → qs ≡ unless fault (cond (in_year m) (amended b (id_of x) m v p.positions) p.positions) (λ _. p.positions) → with_positions p qs ≡ after t p (amend b id m v)
-  book-amended is now =
+  pub book-amended : amend_fault t p x b m v ≡ None → qs ≡ cond (in_year m) (amended b (id_of x) m v p.positions) p.positions → with_positions p qs ≡ after t p (amend b id m v)
+  book-amended none now =
       let entry = entry-for p b id m v x e in
-      after-fault (amend b id m v) (amended b (id_of x) m v p.positions) (amend-entered p b id m v t x e ∙ sym is) (ap (λ j. with_positions p (amended b j m v p.positions)) (sym entry.1))
-      (now ∙ unless-same _ _ (λ o. cond-true (in_year m) _ _ (entry-in-year p b m v x entry.0)))
+      ap (with_positions p) (now ∙ cond-true (in_year m) _ _ (entry-in-year p b m v x entry.0))
+      ∙ ap (λ j. with_positions p (amended b j m v p.positions)) entry.1
+      ∙ sym (after-accepted t p (amend b id m v) (amend-entered p b id m v t x e ∙ none))
 
 -- ---- exposures
 

@@ -12,6 +12,7 @@ use Rattle.rules.specs.declared.figures.Figures.{Figures}
 use Rattle.plain.specs.Kept.{InvesteeInRange, PositionInRange, KeptByEveryRun}
 use Rattle.plain.specs.Lists.{Pairwise}
 use Rattle.plain.specs.PlainBook.{PlainInvestee, PlainPosition, PlainBook}
+use Rattle.book.specs.Standings.{WithinBook}
 
 all_prop : {X : Type 0} (P : X → Type 0) → ((x : X) → IsProp (P x)) → (xs : List X) → IsProp (AllByRecursion P xs)
 all_prop P each [] = Unit-prop
@@ -65,3 +66,10 @@ kept-prop p x y = λ i. record {
 -- what a book keeps to, from its ghost field
 pub kept_of : (p : PlainBook) → ∥ KeptByEveryRun p ∥₁ → KeptByEveryRun p
 kept_of p h = ∥∥₁_elim h (kept-prop p) (λ x. x)
+
+within-prop : (qs : List PlainPosition) (z : PlainInvestee) → IsProp (WithinBook qs z)
+within-prop qs z x y = λ i. record { in_range = investee-prop z x.in_range y.in_range i; exposure_within_limit = le_prop x.exposure_within_limit y.exposure_within_limit i }
+
+-- and what an investee of a book is within
+pub within_of : (qs : List PlainPosition) (x : PlainInvestee) → ∥ WithinBook qs x ∥₁ → WithinBook qs x
+within_of qs x h = ∥∥₁_elim h (within-prop qs x) (λ w. w)

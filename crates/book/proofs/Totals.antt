@@ -37,9 +37,9 @@ module _ (t : Tables) (p : PlainBook) (kept : KeptByEveryRun p) (x : PlainInvest
       λ i. record { kilograms = ks i; reason = rs i; grade = x.grade }
 
   -- the line of an investee
-  pub line-told : (s : Standing) (k : Kilograms) (project counted : Bool) → s ≡ standing_of t p.positions x → k ≡ all_falls s x → project ≡ is_project x → counted ≡ eqb s.reason 0
-      → record { project = project; kilograms = k; positions = s.positions; counted = counted; reduced = x.reduced; exposure = s.exposure; grade = x.grade } ≡ line_of t p x
-  line-told s k project counted is-s is-k is-project is-counted =
+  pub line-told : (s : Standing) (k : Kilograms) (project counted reduced : Bool) → s ≡ standing_of t p.positions x → k ≡ all_falls s x → project ≡ is_project x → counted ≡ eqb s.reason 0 → reduced ≡ x.reduced
+      → record { project = project; kilograms = k; positions = s.positions; counted = counted; reduced = reduced; exposure = s.exposure; grade = x.grade } ≡ line_of t p x
+  line-told s k project counted reduced is-s is-k is-project is-counted is-reduced =
       let ks : k ≡ both (λ m. total (apportionment t p.positions m x)) = is-k ∙ ap (λ s. all_falls s x) is-s ∙ sym totals-closed in
       let cs : counted ≡ is_counted t p.positions x = is-counted ∙ ap (λ (s : Standing). eqb s.reason 0) is-s in
-      λ i. record { project = is-project i; kilograms = ks i; positions = (is-s i).positions; counted = cs i; reduced = x.reduced; exposure = (is-s i).exposure; grade = x.grade }
+      λ i. record { project = is-project i; kilograms = ks i; positions = (is-s i).positions; counted = cs i; reduced = is-reduced i; exposure = (is-s i).exposure; grade = x.grade }

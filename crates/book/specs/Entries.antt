@@ -38,6 +38,11 @@ pub record EntryFor (p : PlainBook) (b m v : ℕ) (x : PlainInvestee) : Type 0 w
 
 -- ---- what else can be wrong
 
+-- a fault as a failure
+abbrev pub failing : Option Fault → Result (Unit {0}) Fault
+failing None = Ok tt
+failing (Some f) = Err f
+
 -- a bond's is counted for each month of the year
 abbrev pub counted : Kind → ℕ → ℕ
 counted kind v = cond (is_bond kind) (months * v) v

@@ -7,14 +7,13 @@ ghost use Rattle.book.specs.Rows.{plain_investee};
 use rules::investees::Profile;
 use sources::reading::Reading;
 
-// An investee with its last reading. Its reduction is 0 until one is set.
+// An investee with its last reading, and its reduction once one is set.
 #[derive(Clone, Copy)]
 pub struct InvesteeRow {
     pub profile: Profile,
     pub kilograms: i64,
     pub grade: u8,
-    pub reduction: i64,
-    pub reduced: bool,
+    pub reduction: Option<i64>,
 }
 
 impl InvesteeRow {
@@ -26,8 +25,7 @@ impl InvesteeRow {
             profile,
             kilograms: first.kilograms,
             grade: first.grade,
-            reduction: 0,
-            reduced: false,
+            reduction: None,
         }
     }
 
@@ -47,8 +45,7 @@ impl InvesteeRow {
         ensures { plain_investee result ≡ reduced_by reading (plain_investee self) }
     {
         InvesteeRow {
-            reduction: reading.kilograms,
-            reduced: true,
+            reduction: Some(reading.kilograms),
             ..self
         }
     }

@@ -1,6 +1,5 @@
 // Shares of a figure in whole kilograms, and how an investee stands in a book.
 ghost use Rattle.std.specs.Prelude.{◌≡◌, ◌+◌, ◌*◌, ◌≤◌, max, ◌+ℤ◌, ◌-ℤ◌, ◌==◌, unsigned_abs};
-ghost use Rattle.rules.specs.Figures.{WithinLimits};
 ghost use Rattle.rules.specs.Tables.{BaseInRange};
 ghost use Rattle.sources.specs.Limits.{most_kilograms};
 ghost use Rattle.plain.specs.Exposures.{denominator_from};
@@ -12,6 +11,7 @@ ghost use Rattle.book.specs.Rows.{plain_investee};
 ghost use Rattle.book.specs.Shares.{Sizes, added, AtMostFigures};
 ghost use Rattle.book.specs.Standings.{standing_of, falls, both_fall, all_falls, whole_turn, Fair, WithinBook};
 ghost use Rattle.book.specs.View.{plain};
+ghost use Rattle.positions.specs.View.{positions_in};
 
 use crate::book::Book;
 use crate::rows::InvesteeRow;
@@ -122,7 +122,7 @@ fn shares(standing: Standing, turn: Turn, row: InvesteeRow) -> Kilograms
 {
     Kilograms {
         emissions: share(standing, turn, row.kilograms),
-        reductions: share(standing, turn, row.reduction),
+        reductions: share(standing, turn, row.reduction.unwrap_or(0)),
     }
 }
 
@@ -138,41 +138,48 @@ fn whole_shares(standing: Standing, row: InvesteeRow) -> Kilograms
     shares(standing, turn, row)
 }
 
-// How an investee stands: the rule is asked once.
-fn standing_of<'r, R: Rule>(book: &Book<'r, R>, row: InvesteeRow) -> Standing
-    requires { WithinLimits row.profile.figures }
-    ensures { result ≡ standing_of (R.tables book.now.rule.now) (plain book.now).positions (plain_investee row) }
-{
-    let lending = book.positions.lending(row.profile.kind, row.profile.id);
-    let attribution = attributed(book.rule, row.profile, lending.exposure, lending.closing);
-    Standing {
-        positions: lending.positions,
-        exposure: lending.exposure,
-        base: base_of(attribution.base, lending.exposure),
-        reason: attribution.reason,
+// An investee of a book.
+#[derive(Drop)]
+struct Held<'b, 'r, R: Rule> {
+    book: &'b Book<'r, R>,
+    row: InvesteeRow,
+    ghost within: { ∥ WithinBook (positions_in book.now.positions) (plain_investee row) ∥₁ },
+}
+
+impl<'b, 'r, R: Rule> Held<'b, 'r, R> {
+    // How it stands: the rule is asked once.
+    fn standing(&self) -> Standing
+        ensures { result ≡ standing_of (R.tables self.now.book.now.rule.now) (plain self.now.book.now).positions (plain_investee self.now.row) }
+    {
+        let profile = self.row.profile;
+        let lending = self.book.positions.lending(profile.kind, profile.id);
+        let attribution = attributed(self.book.rule, profile, lending.exposure, lending.closing);
+        Standing {
+            positions: lending.positions,
+            exposure: lending.exposure,
+            base: base_of(attribution.base, lending.exposure),
+            reason: attribution.reason,
+        }
     }
-}
 
-// The part of a branch of an investee's figures.
-fn part_of<'r, R: Rule>(book: &Book<'r, R>, row: InvesteeRow, branch: u64) -> Kilograms
-    requires { WithinBook (plain book.now).positions (plain_investee row) }
-    ensures { result ≡ part_of (R.tables book.now.rule.now) (plain book.now) branch (plain_investee row) }
-{
-    let turn = book
-        .positions
-        .turn(row.profile.kind, row.profile.id, branch);
-    shares(standing_of(book, row), turn, row)
-}
+    // The part of a branch of its figures.
+    fn part(&self, branch: u64) -> Kilograms
+        ensures { result ≡ part_of (R.tables self.now.book.now.rule.now) (plain self.now.book.now) branch (plain_investee self.now.row) }
+    {
+        let profile = self.row.profile;
+        let turn = self.book.positions.turn(profile.kind, profile.id, branch);
+        shares(self.standing(), turn, self.row)
+    }
 
-// The total of an investee, rounded once.
-fn total_of<'r, R: Rule>(book: &Book<'r, R>, row: InvesteeRow) -> InvesteeTotal
-    requires { WithinBook (plain book.now).positions (plain_investee row) }
-    ensures { result ≡ total_of (R.tables book.now.rule.now) (plain book.now) (plain_investee row) }
-{
-    let standing = standing_of(book, row);
-    InvesteeTotal {
-        kilograms: whole_shares(standing, row),
-        reason: standing.reason,
-        grade: row.grade,
+    // Its total, rounded once.
+    fn total(&self) -> InvesteeTotal
+        ensures { result ≡ total_of (R.tables self.now.book.now.rule.now) (plain self.now.book.now) (plain_investee self.now.row) }
+    {
+        let standing = self.standing();
+        InvesteeTotal {
+            kilograms: whole_shares(standing, self.row),
+            reason: standing.reason,
+            grade: self.row.grade,
+        }
     }
 }

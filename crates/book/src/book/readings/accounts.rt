@@ -12,7 +12,7 @@ ghost use Rattle.book.specs.Told.{told};
 ghost use Rattle.book.specs.View.{plain};
 
 use crate::book::Book;
-use crate::book::readings::{part_of, total_of};
+use crate::book::readings::Held;
 use crate::rows::InvesteeRow;
 use faults::{Fault, Refusal};
 use plain::answers::{InvesteeAccount, InvesteeTotal, Kilograms};
@@ -26,14 +26,15 @@ fn no_accounts() -> [Option<InvesteeAccount>; MOST_INVESTEES]
     [None; MOST_INVESTEES]
 }
 
-// An investee by its id, with its total.
-fn account<'r, R: Rule>(book: &Book<'r, R>, row: InvesteeRow) -> InvesteeAccount
-    requires { WithinBook (plain book.now).positions (plain_investee row) }
-    ensures { result ≡ account_of (R.tables book.now.rule.now) (plain book.now) (plain_investee row) }
-{
-    InvesteeAccount {
-        id: row.profile.id,
-        total: total_of(book, row),
+impl<'b, 'r, R: Rule> Held<'b, 'r, R> {
+    // The investee by its id, with its total.
+    fn account(&self) -> InvesteeAccount
+        ensures { result ≡ account_of (R.tables self.now.book.now.rule.now) (plain self.now.book.now) (plain_investee self.now.row) }
+    {
+        InvesteeAccount {
+            id: self.row.profile.id,
+            total: self.total(),
+        }
     }
 }
 
@@ -46,7 +47,7 @@ impl<'r, R: Rule> Book<'r, R> {
             return Err(Fault::plain(Refusal::EntryOutOfRange));
         }
         let row = self.investee(id)?;
-        Ok(part_of(self, row, branch))
+        Ok(Held { book: self, row }.part(branch))
     }
 
     // What falls to all branches for one investee, the reason for which it is left out, or 0, and its grade.
@@ -54,7 +55,7 @@ impl<'r, R: Rule> Book<'r, R> {
         ensures { told Total result ≡ answer (R.tables self.now.rule.now) (plain self.now) (ask_total id) }
     {
         let row = self.investee(id)?;
-        Ok(total_of(self, row))
+        Ok(Held { book: self, row }.total())
     }
 
     // Every investee with its total, in the order of the openings, and None in the places after them.
@@ -63,7 +64,11 @@ impl<'r, R: Rule> Book<'r, R> {
     {
         let mut accounts = no_accounts();
         for (k, row) in self.investees.as_slice().iter().enumerate() {
-            accounts[k] = Some(account(self, *row));
+            accounts[k] = Some(Held {
+                book: self,
+                row: *row,
+            }
+            .account());
         }
         accounts
     }

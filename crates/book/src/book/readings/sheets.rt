@@ -12,7 +12,7 @@ ghost use Rattle.book.specs.Told.{told};
 ghost use Rattle.book.specs.View.{plain};
 
 use crate::book::Book;
-use crate::book::readings::{added, part_of, shares, standing_of};
+use crate::book::readings::{Held, added, shares};
 use crate::rows::InvesteeRow;
 use faults::{Fault, Refusal};
 use plain::answers::Kilograms;
@@ -45,17 +45,19 @@ fn if_any(any: bool, sheet: Kilograms) -> Option<Kilograms>
     if any { Some(sheet) } else { None }
 }
 
-// Adds the parts of an investee to the sums of the branches: the rule is asked once, and the positions are read twice.
-fn add_parts<'r, R: Rule>(book: &Book<'r, R>, row: InvesteeRow, sums: &mut [Kilograms])
-    requires row { WithinBook (plain book.now).positions (plain_investee row) }
-    requires sums { RoomForParts sums.old }
-    ensures { WithParts (λ b. part_of (R.tables book.now.rule.now) (plain book.now) b (plain_investee row)) sums.old sums.new }
-{
-    let standing = standing_of(book, row);
-    let turns = book.positions.turns(row.profile.kind, row.profile.id);
-    for k in 0..SHEETS {
-        if let Some(turn) = turns[k] {
-            sums[k] = added(sums[k], shares(standing, turn, row));
+impl<'b, 'r, R: Rule> Held<'b, 'r, R> {
+    // Adds its parts to the sums of the branches: the rule is asked once, and the positions are read twice.
+    fn add_parts(&self, sums: &mut [Kilograms])
+        requires { RoomForParts sums.old }
+        ensures { WithParts (λ b. part_of (R.tables self.now.book.now.rule.now) (plain self.now.book.now) b (plain_investee self.now.row)) sums.old sums.new }
+    {
+        let standing = self.standing();
+        let profile = self.row.profile;
+        let turns = self.book.positions.turns(profile.kind, profile.id);
+        for (k, turn) in turns.iter().enumerate() {
+            if let Some(turn) = turn {
+                sums[k] = added(sums[k], shares(standing, *turn, self.row));
+            }
         }
     }
 }
@@ -70,7 +72,14 @@ impl<'r, R: Rule> Book<'r, R> {
             reductions: 0,
         };
         for row in self.investees.as_slice() {
-            sum = added(sum, part_of(self, *row, branch));
+            sum = added(
+                sum,
+                Held {
+                    book: self,
+                    row: *row,
+                }
+                .part(branch),
+            );
         }
         sum
     }
@@ -92,7 +101,11 @@ impl<'r, R: Rule> Book<'r, R> {
     {
         let mut sums = no_sums();
         for row in self.investees.as_slice() {
-            add_parts(self, *row, &mut sums);
+            Held {
+                book: self,
+                row: *row,
+            }
+            .add_parts(&mut sums);
         }
         sums
     }

@@ -12,12 +12,12 @@ use Rattle.book.proofs.Listing.{listed-none, listed_more}
 use Rattle.book.proofs.WithinBook.{rows-within}
 use Rattle.book.proofs.book.Book.accounts.Goals as goal
 
-pub account-requires : goal.account-requires
-account-requires g c =
+pub invariant_of-account : goal.invariant_of-account
+invariant_of-account g c =
     let book = c.args.self.now in
     let read = c.as_slice-row-items.result.now in
     let all = rows-within (vec_items book.investees) book.positions book.kept read c.as_slice-row-items.ensures.value in
-    All-get_or (λ row. WithinBook (positions_in book.positions) (plain_investee row)) read c.loop-k.k _ c.loop-k-test.true all
+    record { within = ∣ All-get_or (λ row. WithinBook (positions_in book.positions) (plain_investee row)) read c.loop-k.k _ c.loop-k-test.true all ∣₁ }
 
 pub loop-k-init : goal.loop-k-init
 loop-k-init g c = c.no_accounts-accounts.ensures ∙ listed-none most_investees

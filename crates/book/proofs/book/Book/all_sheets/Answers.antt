@@ -13,19 +13,22 @@ use Rattle.book.proofs.Sheets.{row_part, parts-sofar-within, sheet-rows}
 use Rattle.book.proofs.WithinBook.{rows-within}
 use Rattle.book.proofs.book.Book.all_sheets.Goals as goal
 
+pub invariant_of-add_parts : goal.invariant_of-add_parts
+invariant_of-add_parts g c =
+    let book = c.args.self.now in
+    let read = c.as_slice-row-items.result.now in
+    let all = rows-within (vec_items book.investees) book.positions book.kept read c.as_slice-row-items.ensures.value in
+    record { within = ∣ All-get_or (λ row. WithinBook (positions_in book.positions) (plain_investee row)) read c.loop-row.row-index _ c.loop-row-test.true all ∣₁ }
+
 pub add_parts-requires : goal.add_parts-requires
 add_parts-requires g c =
     let book = c.args.self.now in
     let t = g.R.Rule.tables book.rule.now in
     let read = c.as_slice-row-items.result.now in
-    let k = c.loop-row.row-index in
     let all = rows-within (vec_items book.investees) book.positions book.kept read c.as_slice-row-items.ensures.value in
     record {
-      row = All-get_or (λ row. WithinBook (positions_in book.positions) (plain_investee row)) read k _ c.loop-row-test.true all;
-      sums = record {
-        long = c.loop-row.invariant.0;
-        within_limit = λ n h. parts-sofar-within t (plain book) (n + 1) read all k c.loop-row-test.true most_investees (get_or c.loop-row.sums n no_kilograms) (omega (arith, c.as_slice-row-items.ensures.len, book.room.0)) (c.loop-row.invariant.1 n h);
-      };
+      long = c.loop-row.invariant.0;
+      within_limit = λ n h. parts-sofar-within t (plain book) (n + 1) read all c.loop-row.row-index c.loop-row-test.true most_investees (get_or c.loop-row.sums n no_kilograms) (omega (arith, c.as_slice-row-items.ensures.len, book.room.0)) (c.loop-row.invariant.1 n h);
     }
 
 pub loop-row-init : goal.loop-row-init

@@ -9,12 +9,12 @@ use Rattle.book.proofs.BookTotals.{filled_more, filled-all}
 use Rattle.book.proofs.WithinBook.{rows-within}
 use Rattle.book.proofs.book.Book.lines.Goals as goal
 
-pub line-requires : goal.line-requires
-line-requires g c =
+pub invariant_of-line : goal.invariant_of-line
+invariant_of-line g c =
     let book = c.args.self.now in
     let read = c.as_slice-row-items.result.now in
     let all = rows-within (vec_items book.investees) book.positions book.kept read c.as_slice-row-items.ensures.value in
-    All-get_or (λ row. WithinBook (positions_in book.positions) (plain_investee row)) read c.loop-k.k _ c.loop-k-test.true all
+    record { within = ∣ All-get_or (λ row. WithinBook (positions_in book.positions) (plain_investee row)) read c.loop-k.k _ c.loop-k-test.true all ∣₁ }
 
 pub loop-k-preserved : goal.loop-k-preserved
 loop-k-preserved g c =

@@ -5,7 +5,7 @@ use Rattle.plain.specs.Steps.{enter}
 use Rattle.book.specs.Rows.{plain_investee, plain_rows}
 use Rattle.book.specs.View.{plain}
 use Rattle.book.proofs.Books.{kept-after}
-use Rattle.book.proofs.Outcomes.{after-declined, answer-accepted, told-declined, passed_on}
+use Rattle.book.proofs.Outcomes.{answer-accepted, failed}
 use Rattle.book.proofs.Openings.{Entered, entered, not_taken, not-read, opened_rows}
 use Rattle.book.proofs.book.Book.open.Given as given
 use Rattle.book.proofs.book.Book.open.Goals as goal
@@ -52,11 +52,8 @@ returns-in_err-profile g c =
     let call = enter c.args.fields (g.S.Source.meaning c.args.source.now) in
     let f = c.in_err-profile.field-0.0 in
     let d = not_taken t p c.args.fields (g.S.Source.meaning c.args.source.now) f c.in_err-profile.ensures in
-    record {
-      book = sym (after-declined t p call f d);
-      rule = refl {a = c.args.self.now.rule};
-      told = told-declined t p call _ f (passed_on _ f c.from_residual.ensures.1) d;
-    }
+    let told = failed t p call f d _ c.from_residual.ensures.1 in
+    record { book = told.0; rule = refl {a = c.args.self.now.rule}; told = told.1 }
 
 pub returns-in_err-reading : goal.returns-in_err-reading
 returns-in_err-reading g c =
@@ -65,8 +62,5 @@ returns-in_err-reading g c =
     let call = enter c.args.fields (g.S.Source.meaning c.args.source.now) in
     let f = c.in_err-reading.field-0.0 in
     let d = not-read t p c.args.fields (g.S.Source.meaning c.args.source.now) c.in_ok-profile.profile f c.in_ok-profile.ensures c.in_err-reading.ensures in
-    record {
-      book = sym (after-declined t p call f d);
-      rule = refl {a = c.args.self.now.rule};
-      told = told-declined t p call _ f (passed_on _ f c.from_residual-in_err-reading.ensures.1) d;
-    }
+    let told = failed t p call f d _ c.from_residual-in_err-reading.ensures.1 in
+    record { book = told.0; rule = refl {a = c.args.self.now.rule}; told = told.1 }

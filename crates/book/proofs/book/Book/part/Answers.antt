@@ -4,7 +4,7 @@ use Rattle.book.proofs.Propositions.{kept_of}
 use Rattle.book.proofs.WithinBook.{within-book}
 use Rattle.book.proofs.book.Book.part.Goals as goal
 
-pub part_of-requires : goal.part_of-requires
-part_of-requires g c =
+pub invariant_of-part : goal.invariant_of-part
+invariant_of-part g c =
     let book = c.args.self.now in
-    within-book (plain book) (kept_of (plain book) book.kept) c.args.id (plain_investee c.in_ok-row.row) c.in_ok-row.ensures
+    record { within = ∣ within-book (plain book) (kept_of (plain book) book.kept) c.args.id (plain_investee c.in_ok-row.row) c.in_ok-row.ensures ∣₁ }

@@ -7,7 +7,7 @@ use Rattle.plain.specs.Steps.{restate}
 use Rattle.book.specs.Rows.{plain_rows}
 use Rattle.book.specs.View.{plain}
 use Rattle.book.proofs.Books.{kept-after}
-use Rattle.book.proofs.Outcomes.{after-declined, after-accepted, answer-accepted, told-declined, passed_on}
+use Rattle.book.proofs.Outcomes.{after-accepted, answer-accepted, failed}
 use Rattle.book.proofs.Openings.{emissions-err, emissions-ok}
 use Rattle.book.proofs.Restating.{not-open, is-open, open-within, reread}
 use Rattle.book.proofs.book.Book.restate.Given as given
@@ -21,11 +21,8 @@ returns-in_err-at g c =
     let call = restate c.args.id (g.S.Source.meaning c.args.source.now) in
     let f = c.in_err-at.field-0.0 in
     let d = not-open p c.args.id f (λ x. if_read (g.S.Source.meaning c.args.source.now) below_zero) c.in_err-at.ensures in
-    record {
-      book = sym (after-declined t p call f d);
-      rule = refl {a = c.args.self.now.rule};
-      told = told-declined t p call _ f (passed_on _ f c.from_residual.ensures.1) d;
-    }
+    let told = failed t p call f d _ c.from_residual.ensures.1 in
+    record { book = told.0; rule = refl {a = c.args.self.now.rule}; told = told.1 }
 
 pub returns-in_err-reading : goal.returns-in_err-reading
 returns-in_err-reading g c =
@@ -34,11 +31,8 @@ returns-in_err-reading g c =
     let m = g.S.Source.meaning c.args.source.now in
     let f = c.in_err-reading.field-0.0 in
     let d = is-open p c.args.id c.in_ok-at.at (if_read m below_zero) c.in_ok-at.ensures ∙ emissions-err m f c.in_err-reading.ensures in
-    record {
-      book = sym (after-declined t p (restate c.args.id m) f d);
-      rule = refl {a = c.args.self.now.rule};
-      told = told-declined t p (restate c.args.id m) _ f (passed_on _ f c.from_residual-in_err-reading.ensures.1) d;
-    }
+    let told = failed t p (restate c.args.id m) f d _ c.from_residual-in_err-reading.ensures.1 in
+    record { book = told.0; rule = refl {a = c.args.self.now.rule}; told = told.1 }
 
 pub index-row-requires : goal.index-row-requires
 index-row-requires g c =

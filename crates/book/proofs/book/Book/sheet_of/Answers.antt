@@ -13,12 +13,12 @@ use Rattle.book.proofs.book.Book.sheet_of.Goals as goal
 pub loop-row-init : goal.loop-row-init
 loop-row-init g c = summed-none _
 
-pub part_of-requires : goal.part_of-requires
-part_of-requires g c =
+pub invariant_of-part : goal.invariant_of-part
+invariant_of-part g c =
     let book = c.args.self.now in
     let read = c.as_slice-row-items.result.now in
     let all = rows-within (vec_items book.investees) book.positions book.kept read c.as_slice-row-items.ensures.value in
-    All-get_or (λ row. WithinBook (positions_in book.positions) (plain_investee row)) read c.loop-row.row-index _ c.loop-row-test.true all
+    record { within = ∣ All-get_or (λ row. WithinBook (positions_in book.positions) (plain_investee row)) read c.loop-row.row-index _ c.loop-row-test.true all ∣₁ }
 
 pub added-sum-requires : goal.added-sum-requires
 added-sum-requires g c =
@@ -27,7 +27,7 @@ added-sum-requires g c =
     let read = c.as_slice-row-items.result.now in
     let all = rows-within (vec_items book.investees) book.positions book.kept read c.as_slice-row-items.ensures.value in (
       parts-sofar-within t (plain book) c.args.branch read all c.loop-row.row-index c.loop-row-test.true most_investees c.loop-row.sum (omega (arith, c.as_slice-row-items.ensures.len, book.room.0)) c.loop-row.invariant,
-      next-part-within t (plain book) c.args.branch read all c.loop-row.row-index c.loop-row-test.true _ c.part_of.result c.part_of.ensures,
+      next-part-within t (plain book) c.args.branch read all c.loop-row.row-index c.loop-row-test.true _ c.part.result c.part.ensures,
     )
 
 pub loop-row-preserved : goal.loop-row-preserved
@@ -35,7 +35,7 @@ loop-row-preserved g c =
     let book = c.args.self.now in
     c.added-sum.ensures
     ∙ summed-more (row_part (g.R.Rule.tables book.rule.now) (plain book) c.args.branch) c.as_slice-row-items.result.now c.loop-row.row-index _ c.loop-row-test.true
-    c.loop-row.sum c.part_of.result c.loop-row.invariant c.part_of.ensures
+    c.loop-row.sum c.part.result c.loop-row.invariant c.part.ensures
 
 pub returns : goal.returns
 returns g c =

@@ -10,26 +10,27 @@ ghost use Rattle.book.specs.View.{plain};
 
 use crate::book::Book;
 use crate::book::readings::lines::{Line, is_project, no_lines, total_from};
-use crate::book::readings::{standing_of, whole_shares};
+use crate::book::readings::{Held, whole_shares};
 use crate::rows::InvesteeRow;
 use plain::answers::BookTotal;
 use plain::limits::MOST_INVESTEES;
 use rules::rule::Rule;
 
-// What an investee adds to the book's totals.
-fn line<'r, R: Rule>(book: &Book<'r, R>, row: InvesteeRow) -> Line
-    requires { WithinBook (plain book.now).positions (plain_investee row) }
-    ensures { result ≡ line_of (R.tables book.now.rule.now) (plain book.now) (plain_investee row) }
-{
-    let standing = standing_of(book, row);
-    Line {
-        project: is_project(row.profile.kind),
-        kilograms: whole_shares(standing, row),
-        positions: standing.positions,
-        counted: standing.is_counted(),
-        reduced: row.reduced,
-        exposure: standing.exposure,
-        grade: row.grade,
+impl<'b, 'r, R: Rule> Held<'b, 'r, R> {
+    // What it adds to the book's totals.
+    fn line(&self) -> Line
+        ensures { result ≡ line_of (R.tables self.now.book.now.rule.now) (plain self.now.book.now) (plain_investee self.now.row) }
+    {
+        let standing = self.standing();
+        Line {
+            project: is_project(self.row.profile.kind),
+            kilograms: whole_shares(standing, self.row),
+            positions: standing.positions,
+            counted: standing.is_counted(),
+            reduced: self.row.reduction.is_some(),
+            exposure: standing.exposure,
+            grade: self.row.grade,
+        }
     }
 }
 
@@ -40,7 +41,11 @@ impl<'r, R: Rule> Book<'r, R> {
     {
         let mut lines = no_lines();
         for (k, row) in self.investees.as_slice().iter().enumerate() {
-            lines[k] = line(self, *row);
+            lines[k] = Held {
+                book: self,
+                row: *row,
+            }
+            .line();
         }
         lines
     }

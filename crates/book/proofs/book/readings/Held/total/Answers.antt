@@ -1,0 +1,21 @@
+use Rattle.positions.specs.View.{positions_in}
+use Rattle.book.specs.Rows.{plain_investee}
+use Rattle.book.specs.View.{plain}
+use Rattle.book.proofs.Propositions.{kept_of, within_of}
+use Rattle.book.proofs.Totals.{total-told}
+use Rattle.book.proofs.WithinBook.{fair-whole}
+use Rattle.book.proofs.book.readings.Held.total.Goals as goal
+
+pub whole_shares-requires : goal.whole_shares-requires
+whole_shares-requires g c =
+    let held = c.args.self.now in
+    let rule = held.book.now.rule.now in
+    let qs = positions_in held.book.now.positions in
+    let x = plain_investee held.row in
+    fair-whole (g.R.Rule.tables rule) (g.R.Rule.lawful rule) qs x (within_of qs x held.within) c.standing-standing.result c.standing-standing.ensures
+
+pub returns : goal.returns
+returns g c =
+    let held = c.args.self.now in
+    let p = plain held.book.now in
+    total-told (g.R.Rule.tables held.book.now.rule.now) p (kept_of p held.book.now.kept) (plain_investee held.row) c.standing-standing.result c.whole_shares.result c.standing-standing.ensures c.whole_shares.ensures

@@ -1,8 +1,0 @@
-use Rattle.plain.specs.Readings.{part_of}
-use Rattle.book.specs.Rows.{plain_investee}
-use Rattle.book.specs.View.{plain}
-use Rattle.book.proofs.AllSheets.{AddedSofar}
-use Rattle.book.proofs.book.readings.sheets.add_parts.Given as goal
-
-abbrev pub invariant-loop-k : goal.invariant-loop-k
-invariant-loop-k g l = AddedSofar (λ b. part_of (g.R.Rule.tables l.book.rule.now) (plain l.book) b (plain_investee l.row)) l.initial.sums l.sums l.k
