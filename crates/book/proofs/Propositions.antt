@@ -12,7 +12,9 @@ use Rattle.rules.specs.declared.figures.Figures.{Figures}
 use Rattle.plain.specs.Kept.{InvesteeInRange, PositionInRange, KeptByEveryRun}
 use Rattle.plain.specs.Lists.{Pairwise}
 use Rattle.plain.specs.PlainBook.{PlainInvestee, PlainPosition, PlainBook}
+use Rattle.book.specs.Lines.{LineWithinLimits}
 use Rattle.book.specs.Standings.{WithinBook}
+use Rattle.book.specs.declared.book.readings.lines.Line.{Line}
 
 all_prop : {X : Type 0} (P : X → Type 0) → ((x : X) → IsProp (P x)) → (xs : List X) → IsProp (AllByRecursion P xs)
 all_prop P each [] = Unit-prop
@@ -73,3 +75,18 @@ within-prop qs z x y = λ i. record { in_range = investee-prop z x.in_range y.in
 -- and what an investee of a book is within
 pub within_of : (qs : List PlainPosition) (x : PlainInvestee) → ∥ WithinBook qs x ∥₁ → WithinBook qs x
 within_of qs x h = ∥∥₁_elim h (within-prop qs x) (λ w. w)
+
+line-prop : (l : Line) → IsProp (LineWithinLimits l)
+line-prop l x y = λ i. record {
+  kilograms_within_limit = record {
+    of_emissions = le_prop x.kilograms_within_limit.of_emissions y.kilograms_within_limit.of_emissions i;
+    of_reductions = le_prop x.kilograms_within_limit.of_reductions y.kilograms_within_limit.of_reductions i;
+  };
+  positions_within_limit = le_prop x.positions_within_limit y.positions_within_limit i;
+  exposure_within_limit = le_prop x.exposure_within_limit y.exposure_within_limit i;
+  grade_within_limit = le_prop x.grade_within_limit y.grade_within_limit i;
+}
+
+-- and its lines
+pub lines_of : (lines : List Line) → ∥ AllByRecursion LineWithinLimits lines ∥₁ → AllByRecursion LineWithinLimits lines
+lines_of lines h = ∥∥₁_elim h (all_prop LineWithinLimits line-prop lines) (λ all. all)

@@ -3,4 +3,5 @@
 
 pub mod book;
 pub mod calls;
+mod filled;
 mod rows;

@@ -26,6 +26,11 @@ mod accounts;
 mod lines;
 pub mod sheets;
 
+const NO_KILOGRAMS: Kilograms = Kilograms {
+    emissions: 0,
+    reductions: 0,
+};
+
 // What the exposures to an investee, added up, are divided by: a base of 0 is taken as 1.
 fn base_of(base: Result<Base, Refusal>, exposure: u64) -> u64
     requires { BaseInRange base }

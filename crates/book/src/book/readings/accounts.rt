@@ -13,18 +13,12 @@ ghost use Rattle.book.specs.View.{plain};
 
 use crate::book::Book;
 use crate::book::readings::Held;
+use crate::filled::filled;
 use crate::rows::InvesteeRow;
 use faults::{Fault, Refusal};
 use plain::answers::{InvesteeAccount, InvesteeTotal, Kilograms};
 use plain::limits::{MOST_INVESTEES, branch_out_of_range};
 use rules::rule::Rule;
-
-// A place for the account of each investee that a book can have.
-fn no_accounts() -> [Option<InvesteeAccount>; MOST_INVESTEES]
-    ensures { result ≡ replicate most_investees None }
-{
-    [None; MOST_INVESTEES]
-}
 
 impl<'b, 'r, R: Rule> Held<'b, 'r, R> {
     // The investee by its id, with its total.
@@ -62,13 +56,9 @@ impl<'r, R: Rule> Book<'r, R> {
     pub fn accounts(&self) -> [Option<InvesteeAccount>; MOST_INVESTEES]
         ensures { result ≡ listed most_investees (accounts_of (R.tables self.now.rule.now) (plain self.now)) }
     {
-        let mut accounts = no_accounts();
-        for (k, row) in self.investees.as_slice().iter().enumerate() {
-            accounts[k] = Some(Held {
-                book: self,
-                row: *row,
-            }
-            .account());
+        let mut accounts = filled(None);
+        for (k, &row) in self.investees.iter().enumerate() {
+            accounts[k] = Some(Held { book: self, row }.account());
         }
         accounts
     }

@@ -6,7 +6,7 @@ ghost use Rattle.plain.specs.Readings.{project_kind, hundredths};
 ghost use Rattle.plain.specs.Exposures.{emissions as of_emissions, reductions as of_reductions};
 ghost use Rattle.book.specs.Lines.{no_line, weight_of, grade_of, covered, takes, taken, plus_line, no_sums, sums_of, subtotal_from, book_total_from, LineWithinLimits, AtMostLines};
 
-use crate::book::readings::added;
+use crate::book::readings::{NO_KILOGRAMS, added};
 use grading::{Graded, mean};
 use plain::answers::{BookTotal, Kilograms, Subtotal};
 use plain::limits::{MOST_EXPOSURE, MOST_INVESTEES};
@@ -64,23 +64,13 @@ struct Sums {
 
 const NO_LINE: Line = Line {
     project: false,
-    kilograms: Kilograms {
-        emissions: 0,
-        reductions: 0,
-    },
+    kilograms: NO_KILOGRAMS,
     positions: 0,
     counted: false,
     reduced: false,
     exposure: 0,
     grade: 0,
 };
-
-// A table with room for the lines of a full book.
-fn no_lines() -> [Line; MOST_INVESTEES]
-    ensures { result ≡ replicate most_investees no_line }
-{
-    [NO_LINE; MOST_INVESTEES]
-}
 
 fn is_project(kind: Kind) -> bool
     ensures { result ≡ project_kind kind }
@@ -146,10 +136,7 @@ impl Sums {
         ensures { result ≡ no_sums }
     {
         Sums {
-            kilograms: Kilograms {
-                emissions: 0,
-                reductions: 0,
-            },
+            kilograms: NO_KILOGRAMS,
             positions: 0,
             counted: 0,
             reduced: 0,
@@ -170,18 +157,6 @@ fn plus(sums: Sums, line: Line) -> Sums
     }
 }
 
-// The lines of a group, added up.
-fn sums_of(group: Group, lines: &[Line]) -> Sums
-    requires { (length lines.now ≤ most_investees) × AllByRecursion LineWithinLimits lines.now }
-    ensures { result ≡ sums_of group lines.now }
-{
-    let mut sums = Sums::none();
-    for line in lines {
-        sums = plus(sums, group.taken(*line));
-    }
-    sums
-}
-
 // What sums say of their group: its kilograms, and how many of its positions these cover.
 fn subtotal_from(sums: Sums) -> Subtotal
     requires { AtMostLines most_investees sums }
@@ -194,23 +169,42 @@ fn subtotal_from(sums: Sums) -> Subtotal
     }
 }
 
-// What falls to all branches for a group.
-fn subtotal(group: Group, lines: &[Line]) -> Subtotal
-    requires { (length lines.now ≤ most_investees) × AllByRecursion LineWithinLimits lines.now }
-    ensures { result ≡ subtotal_from (sums_of group lines.now) }
-{
-    subtotal_from(sums_of(group, lines))
+// The lines of a book, as many as it has investees.
+#[derive(Drop)]
+struct Lines<'l> {
+    lines: &'l [Line],
+    ghost few: { length lines.now ≤ most_investees },
+    ghost within: { ∥ AllByRecursion LineWithinLimits lines.now ∥₁ },
 }
 
-// The book total of these lines: for projects, for the rest and for all, with one mean grade.
-fn total_from(lines: &[Line]) -> BookTotal
-    requires { (length lines.now ≤ most_investees) × AllByRecursion LineWithinLimits lines.now }
-    ensures { result ≡ book_total_from lines.now }
-{
-    BookTotal {
-        projects: subtotal(Group::Projects, lines),
-        rest: subtotal(Group::Rest, lines),
-        all: subtotal(Group::All, lines),
-        mean_grade: mean(lines),
+impl<'l> Lines<'l> {
+    // Those of a group, added up.
+    fn sums(&self, group: Group) -> Sums
+        ensures { result ≡ sums_of group self.now.lines.now }
+    {
+        let mut sums = Sums::none();
+        for line in self.lines {
+            sums = plus(sums, group.taken(*line));
+        }
+        sums
+    }
+
+    // What falls to all branches for a group.
+    fn subtotal(&self, group: Group) -> Subtotal
+        ensures { result ≡ subtotal_from (sums_of group self.now.lines.now) }
+    {
+        subtotal_from(self.sums(group))
+    }
+
+    // The book total: for projects, for the rest and for all, with one mean grade.
+    fn total(&self) -> BookTotal
+        ensures { result ≡ book_total_from self.now.lines.now }
+    {
+        BookTotal {
+            projects: self.subtotal(Group::Projects),
+            rest: self.subtotal(Group::Rest),
+            all: self.subtotal(Group::All),
+            mean_grade: mean(self.lines),
+        }
     }
 }

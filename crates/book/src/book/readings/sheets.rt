@@ -12,7 +12,8 @@ ghost use Rattle.book.specs.Told.{told};
 ghost use Rattle.book.specs.View.{plain};
 
 use crate::book::Book;
-use crate::book::readings::{Held, added, shares};
+use crate::book::readings::{Held, NO_KILOGRAMS, added, shares};
+use crate::filled::filled;
 use crate::rows::InvesteeRow;
 use faults::{Fault, Refusal};
 use plain::answers::Kilograms;
@@ -21,22 +22,6 @@ use rules::rule::Rule;
 
 // A sheet for each branch.
 pub const SHEETS: usize = BRANCHES as usize;
-
-// A place for each of them.
-fn no_sheets() -> [Option<Kilograms>; SHEETS]
-    ensures { result ≡ replicate branch_count None }
-{
-    [None; SHEETS]
-}
-
-fn no_sums() -> [Kilograms; SHEETS]
-    ensures { result ≡ replicate branch_count no_kilograms }
-{
-    [Kilograms {
-        emissions: 0,
-        reductions: 0,
-    }; SHEETS]
-}
 
 // The sheet of a branch, if it has lent at all.
 fn if_any(any: bool, sheet: Kilograms) -> Option<Kilograms>
@@ -67,19 +52,10 @@ impl<'r, R: Rule> Book<'r, R> {
     fn sheet_of(&self, branch: u64) -> Kilograms
         ensures { result ≡ sheet_of (R.tables self.now.rule.now) (plain self.now) branch }
     {
-        let mut sum = Kilograms {
-            emissions: 0,
-            reductions: 0,
-        };
-        for row in self.investees.as_slice() {
-            sum = added(
-                sum,
-                Held {
-                    book: self,
-                    row: *row,
-                }
-                .part(branch),
-            );
+        let mut sum = NO_KILOGRAMS;
+        for &row in &self.investees {
+            let part = Held { book: self, row }.part(branch);
+            sum = added(sum, part);
         }
         sum
     }
@@ -99,13 +75,9 @@ impl<'r, R: Rule> Book<'r, R> {
         ensures long { length result ≡ branch_count }
         ensures sheets { (n : ℕ) → n < branch_count → slice_index_or result n no_kilograms ≡ sheet_of (R.tables self.now.rule.now) (plain self.now) (n + 1) }
     {
-        let mut sums = no_sums();
-        for row in self.investees.as_slice() {
-            Held {
-                book: self,
-                row: *row,
-            }
-            .add_parts(&mut sums);
+        let mut sums = filled(NO_KILOGRAMS);
+        for &row in &self.investees {
+            Held { book: self, row }.add_parts(&mut sums);
         }
         sums
     }
@@ -115,7 +87,7 @@ impl<'r, R: Rule> Book<'r, R> {
         ensures { result ≡ sheets_of (R.tables self.now.rule.now) (plain self.now) }
     {
         let sums = self.all_sheets();
-        let mut sheets = no_sheets();
+        let mut sheets = filled(None);
         for k in 0..SHEETS {
             sheets[k] = if_any(self.positions.has_branch(k as u64 + 1), sums[k]);
         }

@@ -16,25 +16,25 @@ use Rattle.book.proofs.book.Book.all_sheets.Goals as goal
 pub invariant_of-add_parts : goal.invariant_of-add_parts
 invariant_of-add_parts g c =
     let book = c.args.self.now in
-    let read = c.as_slice-row-items.result.now in
-    let all = rows-within (vec_items book.investees) book.positions book.kept read c.as_slice-row-items.ensures.value in
+    let read = c.deref-row-items.result.now in
+    let all = rows-within (vec_items book.investees) book.positions book.kept read c.deref-row-items.ensures.value in
     record { within = ∣ All-get_or (λ row. WithinBook (positions_in book.positions) (plain_investee row)) read c.loop-row.row-index _ c.loop-row-test.true all ∣₁ }
 
 pub add_parts-requires : goal.add_parts-requires
 add_parts-requires g c =
     let book = c.args.self.now in
     let t = g.R.Rule.tables book.rule.now in
-    let read = c.as_slice-row-items.result.now in
-    let all = rows-within (vec_items book.investees) book.positions book.kept read c.as_slice-row-items.ensures.value in
+    let read = c.deref-row-items.result.now in
+    let all = rows-within (vec_items book.investees) book.positions book.kept read c.deref-row-items.ensures.value in
     record {
       long = c.loop-row.invariant.0;
-      within_limit = λ n h. parts-sofar-within t (plain book) (n + 1) read all c.loop-row.row-index c.loop-row-test.true most_investees (get_or c.loop-row.sums n no_kilograms) (omega (arith, c.as_slice-row-items.ensures.len, book.room.0)) (c.loop-row.invariant.1 n h);
+      within_limit = λ n h. parts-sofar-within t (plain book) (n + 1) read all c.loop-row.row-index c.loop-row-test.true most_investees (get_or c.loop-row.sums n no_kilograms) (omega (arith, c.deref-row-items.ensures.len, book.room.0)) (c.loop-row.invariant.1 n h);
     }
 
 pub loop-row-init : goal.loop-row-init
 loop-row-init g c = (
-  ap length c.no_sums-sums.ensures,
-  λ n h. ap (λ l. get_or l n no_kilograms) c.no_sums-sums.ensures ∙ get_or-replicate branch_count n no_kilograms no_kilograms h ∙ summed-none _,
+  ap length c.filled-sums.ensures,
+  λ n h. ap (λ l. get_or l n no_kilograms) c.filled-sums.ensures ∙ get_or-replicate branch_count n no_kilograms no_kilograms h ∙ summed-none _,
 )
 
 pub loop-row-preserved : goal.loop-row-preserved
@@ -43,7 +43,7 @@ loop-row-preserved g c =
     let t = g.R.Rule.tables book.rule.now in (
       c.add_parts.ensures.long,
       λ n h. c.add_parts.ensures.has_part n h
-          ∙ summed-more (row_part t (plain book) (n + 1)) c.as_slice-row-items.result.now c.loop-row.row-index _ c.loop-row-test.true (get_or c.loop-row.sums n no_kilograms) _ (c.loop-row.invariant.1 n h) refl,
+          ∙ summed-more (row_part t (plain book) (n + 1)) c.deref-row-items.result.now c.loop-row.row-index _ c.loop-row-test.true (get_or c.loop-row.sums n no_kilograms) _ (c.loop-row.invariant.1 n h) refl,
     )
 
 pub returns : goal.returns
@@ -53,6 +53,6 @@ returns g c =
     record {
       long = c.loop-row.invariant.0;
       sheets = λ n h. c.loop-row.invariant.1 n h
-          ∙ ap (summed (row_part t (plain book) (n + 1))) (take_all c.loop-row.row-index c.as_slice-row-items.result.now c.loop-row-test.false ∙ c.as_slice-row-items.ensures.value)
+          ∙ ap (summed (row_part t (plain book) (n + 1))) (take_all c.loop-row.row-index c.deref-row-items.result.now c.loop-row-test.false ∙ c.deref-row-items.ensures.value)
           ∙ sheet-rows t (vec_items book.investees) book.positions (n + 1);
     }

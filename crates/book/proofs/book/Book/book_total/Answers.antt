@@ -6,16 +6,17 @@ use Rattle.book.proofs.Propositions.{kept_of}
 use Rattle.book.proofs.WithinBook.{all-within}
 use Rattle.book.proofs.book.Book.book_total.Goals as goal
 
-pub total_from-requires : goal.total_from-requires
-total_from-requires g c =
+pub invariant_of-total : goal.invariant_of-total
+invariant_of-total g c =
     let book = c.args.self.now in
     let kept = kept_of (plain book) book.kept in
     let read : c.len.result - 0 ≡ vec_len book.investees = omega arith in
-    lines-within (g.R.Rule.tables book.rule.now) (plain book) kept _ (ap (λ n. take n c.lines-table.result) read ∙ c.lines-table.ensures) (all-within (plain book) kept)
+    let all = lines-within (g.R.Rule.tables book.rule.now) (plain book) kept _ (ap (λ n. take n c.lines-table.result) read ∙ c.lines-table.ensures) (all-within (plain book) kept) in
+    record { few = all.0; within = ∣ all.1 ∣₁ }
 
 pub returns : goal.returns
 returns g c =
     let book = c.args.self.now in
     let kept = kept_of (plain book) book.kept in
     let read : c.len.result - 0 ≡ vec_len book.investees = omega arith in
-    ap answers.Book (c.total_from.ensures ∙ book-total-told (g.R.Rule.tables book.rule.now) (plain book) kept _ (ap (λ n. take n c.lines-table.result) read ∙ c.lines-table.ensures) (all-within (plain book) kept))
+    ap answers.Book (c.total.ensures ∙ book-total-told (g.R.Rule.tables book.rule.now) (plain book) kept _ (ap (λ n. take n c.lines-table.result) read ∙ c.lines-table.ensures) (all-within (plain book) kept))

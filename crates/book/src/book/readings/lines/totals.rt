@@ -9,9 +9,9 @@ ghost use Rattle.book.specs.Standings.{WithinBook};
 ghost use Rattle.book.specs.View.{plain};
 
 use crate::book::Book;
-use crate::book::readings::lines::{Line, is_project, no_lines, total_from};
+use crate::book::readings::lines::{Line, Lines, NO_LINE, is_project};
 use crate::book::readings::{Held, whole_shares};
-use crate::rows::InvesteeRow;
+use crate::filled::filled;
 use plain::answers::BookTotal;
 use plain::limits::MOST_INVESTEES;
 use rules::rule::Rule;
@@ -39,13 +39,9 @@ impl<'r, R: Rule> Book<'r, R> {
     fn lines(&self) -> [Line; MOST_INVESTEES]
         ensures { take (vec_len self.now.investees) result ≡ map (line_of (R.tables self.now.rule.now) (plain self.now)) (plain self.now).investees }
     {
-        let mut lines = no_lines();
-        for (k, row) in self.investees.as_slice().iter().enumerate() {
-            lines[k] = Held {
-                book: self,
-                row: *row,
-            }
-            .line();
+        let mut lines = filled(NO_LINE);
+        for (k, &row) in self.investees.iter().enumerate() {
+            lines[k] = Held { book: self, row }.line();
         }
         lines
     }
@@ -56,6 +52,7 @@ impl<'r, R: Rule> Book<'r, R> {
         ensures { BookAnswer result ≡ answer (R.tables self.now.rule.now) (plain self.now) ask_book_total }
     {
         let table = self.lines();
-        total_from(&table[0..self.investees.len()])
+        let lines = &table[0..self.investees.len()];
+        Lines { lines }.total()
     }
 }

@@ -1,6 +1,0 @@
-use Rattle.std.proofs.Common.{◌≡◌, take}
-use Rattle.book.specs.Lines.{sums_of}
-use Rattle.book.proofs.book.readings.lines.sums_of.Given as goal
-
-abbrev pub invariant-loop-line : goal.invariant-loop-line
-invariant-loop-line l = l.sums ≡ sums_of l.group (take l.line-index l.lines)
