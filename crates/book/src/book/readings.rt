@@ -38,8 +38,7 @@ fn base_of(base: Result<Base, Refusal>, exposure: u64) -> u64
 {
     let least = match base {
         Ok(Base::Amount(amount)) => MONTHS * amount,
-        Ok(Base::Whole) => 1,
-        Err(_) => 1,
+        Ok(Base::Whole) | Err(_) => 1,
     };
     least.max(exposure)
 }

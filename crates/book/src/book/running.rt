@@ -69,6 +69,7 @@ impl<'r, R: Rule> Book<'r, R> {
         ensures reached { ReachedByARun (R.tables self.old.rule.now) (plain self.old) → ReachedByARun (R.tables self.new.rule.now) (plain self.new) }
     {
         let count = calls.len().min(answers.len());
+        // By index: of what is written through an adapter of `iter_mut` a proof knows nothing.
         for (i, call) in calls[..count].iter().enumerate() {
             let answer = self.apply(call);
             answers[i] = answer;

@@ -57,6 +57,7 @@ impl<'r, R: Rule> Book<'r, R> {
         ensures { result ≡ listed most_investees (accounts_of (R.tables self.now.rule.now) (plain self.now)) }
     {
         let mut accounts = filled(None);
+        // By index: of what is written through an adapter of `iter_mut` a proof knows nothing.
         for (k, &row) in self.investees.iter().enumerate() {
             accounts[k] = Some(Held { book: self, row }.account());
         }

@@ -75,10 +75,7 @@ const NO_LINE: Line = Line {
 fn is_project(kind: Kind) -> bool
     ensures { result ≡ project_kind kind }
 {
-    match kind {
-        Kind::Project => true,
-        _ => false,
-    }
+    matches!(kind, Kind::Project)
 }
 
 // So many of all in hundredths of a percent, toward zero; nothing where there are none.

@@ -2,7 +2,7 @@
 ghost use Rattle.std.specs.Prelude.{◌≡◌, ℕ, ◌+◌, ◌<◌, length, replicate, if◌then◌else◌, Some, None, slice_index_or};
 ghost use Rattle.plain.specs.Branches.{branch_count};
 ghost use Rattle.plain.specs.declared.answers.Answer.TheVariants.{Sheet};
-ghost use Rattle.plain.specs.Readings.{part_of, sheet_of, sheets_of};
+ghost use Rattle.plain.specs.Readings.{has_position, part_of, sheet_of, sheets_of};
 ghost use Rattle.plain.specs.Runs.{answer};
 ghost use Rattle.plain.specs.Steps.{ask_sheet};
 ghost use Rattle.book.specs.Rows.{plain_investee};
@@ -23,13 +23,6 @@ use rules::rule::Rule;
 // A sheet for each branch.
 pub const SHEETS: usize = BRANCHES as usize;
 
-// The sheet of a branch, if it has lent at all.
-fn if_any(any: bool, sheet: Kilograms) -> Option<Kilograms>
-    ensures { result ≡ (if any then Some sheet else None) }
-{
-    if any { Some(sheet) } else { None }
-}
-
 impl<'b, 'r, R: Rule> Held<'b, 'r, R> {
     // Adds its parts to the sums of the branches: the rule is asked once, and the positions are read twice.
     fn add_parts(&self, sums: &mut [Kilograms])
@@ -39,6 +32,7 @@ impl<'b, 'r, R: Rule> Held<'b, 'r, R> {
         let standing = self.standing();
         let profile = self.row.profile;
         let turns = self.book.positions.turns(profile.kind, profile.id);
+        // By index: of what is written through an adapter of `iter_mut` a proof knows nothing.
         for (k, turn) in turns.iter().enumerate() {
             if let Some(turn) = turn {
                 sums[k] = added(sums[k], shares(standing, *turn, self.row));
@@ -82,14 +76,22 @@ impl<'r, R: Rule> Book<'r, R> {
         sums
     }
 
+    // The sheet of a branch, if it has lent at all.
+    fn if_lent(&self, branch: u64, sheet: Kilograms) -> Option<Kilograms>
+        ensures { result ≡ (if has_position (plain self.now) branch then Some sheet else None) }
+    {
+        self.positions.has_branch(branch).then_some(sheet)
+    }
+
     // The sheets of all branches, from branch 1 on: None for a branch without a position.
     pub fn sheets(&self) -> [Option<Kilograms>; SHEETS]
         ensures { result ≡ sheets_of (R.tables self.now.rule.now) (plain self.now) }
     {
         let sums = self.all_sheets();
         let mut sheets = filled(None);
-        for k in 0..SHEETS {
-            sheets[k] = if_any(self.positions.has_branch(k as u64 + 1), sums[k]);
+        // By index: of what is written through an adapter of `iter_mut` a proof knows nothing.
+        for (k, &sum) in sums.iter().enumerate() {
+            sheets[k] = self.if_lent(k as u64 + 1, sum);
         }
         sheets
     }

@@ -40,6 +40,7 @@ impl<'r, R: Rule> Book<'r, R> {
         ensures { take (vec_len self.now.investees) result ≡ map (line_of (R.tables self.now.rule.now) (plain self.now)) (plain self.now).investees }
     {
         let mut lines = filled(NO_LINE);
+        // By index: of what is written through an adapter of `iter_mut` a proof knows nothing.
         for (k, &row) in self.investees.iter().enumerate() {
             lines[k] = Held { book: self, row }.line();
         }
