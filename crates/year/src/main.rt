@@ -57,15 +57,27 @@ fn post(branch: u64, id: u64, month: u64, balance: u64) -> Call<Reads> {
     }
 }
 
+// A call, and what to call it.
+#[derive(Drop)]
+struct Step {
+    label: &'static str,
+    call: Call<Reads>,
+}
+
+fn named(label: &'static str, call: Call<Reads>) -> Step {
+    Step { label, call }
+}
+
 // Does the calls, at most eight, as one run, and prints each with its answer.
-fn show(
-    rt: &HostRuntime,
-    book: &mut Book<'_, National>,
-    labels: &[&str],
-    calls: &[Call<Reads>],
-) -> io::Result<()> {
+fn show(rt: &HostRuntime, book: &mut Book<'_, National>, steps: Vec<Step>) -> io::Result<()> {
+    let mut labels = Vec::with_capacity(rt.alloc(), steps.len())?;
+    let mut calls = Vec::with_capacity(rt.alloc(), steps.len())?;
+    for step in steps {
+        labels.push(step.label)?;
+        calls.push(step.call)?;
+    }
     let mut answers = [Answer::Done; 8];
-    book.run(calls, &mut answers);
+    book.run(&calls, &mut answers);
     for (label, answer) in labels.iter().zip(answers.iter()) {
         let text = answer_text(rt.alloc(), *answer)?;
         println!(rt; "{label}: {text}")?;
@@ -73,111 +85,109 @@ fn show(
     Ok(())
 }
 
+fn open(id: u64, kind: u64, investment: u64, revenue: u64, kilograms: u64) -> Call<Reads> {
+    Call::Open {
+        fields: fields(id, kind, investment, revenue),
+        source: reported(kilograms),
+    }
+}
+
 fn openings(rt: &HostRuntime, book: &mut Book<'_, National>) -> io::Result<()> {
-    let labels = [
-        "open 7, a general loan, revenue 10000, 1000 kg",
-        "open 8, a project, investment 20000, 2400 kg",
-        "open 7 again",
-        "open 9, a bond",
-    ];
-    let calls = [
-        Call::Open {
-            fields: fields(7, 5, 0, 10_000),
-            source: reported(1_000),
-        },
-        Call::Open {
-            fields: fields(8, 1, 20_000, 0),
-            source: reported(2_400),
-        },
-        Call::Open {
-            fields: fields(7, 5, 0, 10_000),
-            source: reported(1),
-        },
-        Call::Open {
-            fields: fields(9, 6, 0, 0),
-            source: reported(1),
-        },
-    ];
-    show(rt, book, &labels, &calls)
+    let steps = vec![in rt.alloc();
+        named(
+            "open 7, a general loan, revenue 10000, 1000 kg",
+            open(7, 5, 0, 10_000, 1_000),
+        ),
+        named(
+            "open 8, a project, investment 20000, 2400 kg",
+            open(8, 1, 20_000, 0, 2_400),
+        ),
+        named("open 7 again", open(7, 5, 0, 10_000, 1)),
+        named("open 9, a bond", open(9, 6, 0, 0, 1)),
+    ]?;
+    show(rt, book, steps)
 }
 
 fn posts(rt: &HostRuntime, book: &mut Book<'_, National>) -> io::Result<()> {
-    let labels = [
-        "branch 1 posts 40000 on 7 in month 1",
-        "branch 2 posts 40000 on 7 in month 1",
-        "branch 3 posts 40000 on 7 in month 12",
-        "branch 1 posts 60000 on 8 in month 6",
-        "branch 1 posts on 7 in month 1 again",
-        "branch 41 posts on 7",
-    ];
-    let calls = [
-        post(1, 7, 1, 40_000),
-        post(2, 7, 1, 40_000),
-        post(3, 7, 12, 40_000),
-        post(1, 8, 6, 60_000),
-        post(1, 7, 1, 1),
-        post(41, 7, 1, 1),
-    ];
-    show(rt, book, &labels, &calls)
+    let steps = vec![in rt.alloc();
+        named(
+            "branch 1 posts 40000 on 7 in month 1",
+            post(1, 7, 1, 40_000),
+        ),
+        named(
+            "branch 2 posts 40000 on 7 in month 1",
+            post(2, 7, 1, 40_000),
+        ),
+        named(
+            "branch 3 posts 40000 on 7 in month 12",
+            post(3, 7, 12, 40_000),
+        ),
+        named(
+            "branch 1 posts 60000 on 8 in month 6",
+            post(1, 8, 6, 60_000),
+        ),
+        named("branch 1 posts on 7 in month 1 again", post(1, 7, 1, 1)),
+        named("branch 41 posts on 7", post(41, 7, 1, 1)),
+    ]?;
+    show(rt, book, steps)
 }
 
 fn readings(rt: &HostRuntime, book: &mut Book<'_, National>) -> io::Result<()> {
-    let labels = [
-        "part of branch 1 on 7",
-        "part of branch 2 on 7",
-        "part of branch 3 on 7",
-        "total of 7",
-        "total of 8",
-        "sheet of branch 1",
-        "book total",
-    ];
-    let calls = [
-        Call::Part { id: 7, branch: 1 },
-        Call::Part { id: 7, branch: 2 },
-        Call::Part { id: 7, branch: 3 },
-        Call::Total { id: 7 },
-        Call::Total { id: 8 },
-        Call::Sheet { branch: 1 },
-        Call::BookTotal,
-    ];
-    show(rt, book, &labels, &calls)
+    let steps = vec![in rt.alloc();
+        named("part of branch 1 on 7", Call::Part { id: 7, branch: 1 }),
+        named("part of branch 2 on 7", Call::Part { id: 7, branch: 2 }),
+        named("part of branch 3 on 7", Call::Part { id: 7, branch: 3 }),
+        named("total of 7", Call::Total { id: 7 }),
+        named("total of 8", Call::Total { id: 8 }),
+        named("sheet of branch 1", Call::Sheet { branch: 1 }),
+        named("book total", Call::BookTotal),
+    ]?;
+    show(rt, book, steps)
 }
 
 fn changes(rt: &HostRuntime, book: &mut Book<'_, National>) -> io::Result<()> {
-    let labels = [
-        "restate 8 to 3000 kg",
-        "reduce 7 by an estimate of 200 kg more than before",
-        "branch 3 amends month 12 on 7 to 10000",
-        "branch 3 amends month 11 on 7",
-        "restate 5",
-    ];
-    let calls = [
-        Call::Restate {
-            id: 8,
-            source: reported(3_000),
-        },
-        Call::Reduce {
-            id: 7,
-            source: saved(800, 1_000),
-        },
-        Call::Amend {
-            branch: 3,
-            id: 7,
-            month: 12,
-            balance: 10_000,
-        },
-        Call::Amend {
-            branch: 3,
-            id: 7,
-            month: 11,
-            balance: 1,
-        },
-        Call::Restate {
-            id: 5,
-            source: reported(1),
-        },
-    ];
-    show(rt, book, &labels, &calls)
+    let steps = vec![in rt.alloc();
+        named(
+            "restate 8 to 3000 kg",
+            Call::Restate {
+                id: 8,
+                source: reported(3_000),
+            },
+        ),
+        named(
+            "reduce 7 by an estimate of 200 kg more than before",
+            Call::Reduce {
+                id: 7,
+                source: saved(800, 1_000),
+            },
+        ),
+        named(
+            "branch 3 amends month 12 on 7 to 10000",
+            Call::Amend {
+                branch: 3,
+                id: 7,
+                month: 12,
+                balance: 10_000,
+            },
+        ),
+        named(
+            "branch 3 amends month 11 on 7",
+            Call::Amend {
+                branch: 3,
+                id: 7,
+                month: 11,
+                balance: 1,
+            },
+        ),
+        named(
+            "restate 5",
+            Call::Restate {
+                id: 5,
+                source: reported(1),
+            },
+        ),
+    ]?;
+    show(rt, book, steps)
 }
 
 fn main(rt: HostRuntime) -> io::Result<()> {
