@@ -1,7 +1,7 @@
 -- Which positions of a plain book a table stands for.
 use Rattle.std.specs.Prelude.{List}
 use Rattle.plain.specs.PlainBook.{PlainPosition}
-use Rattle.tables.specs.Tables.{rows_in}
+use Rattle.fixed_tables.specs.Tables.{rows_in}
 use Rattle.positions.specs.declared.Positions.{Positions}
 use Rattle.positions.specs.Rows.{plain_positions}
 

@@ -11,7 +11,7 @@ ghost use Rattle.positions.specs.Years.{in_year};
 
 use crate::{PositionRow, Positions, in_year};
 use std::alloc::{AllocError, Global};
-use tables::Table;
+use fixed_tables::Table;
 
 impl Positions {
     // A table without positions. It reserves all the memory that the table will use.
@@ -61,7 +61,7 @@ impl Positions {
     {
         let mut row = PositionRow::new(branch, id);
         row.write(month, balance);
-        self.rows.push(row);
+        let _ = self.rows.push(row);
     }
 
     // Writes the balance of one month of the position at a place, and touches no other.

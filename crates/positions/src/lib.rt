@@ -13,7 +13,7 @@ ghost use Rattle.positions.specs.Years.{in_year};
 use plain::limits::MOST_POSITIONS;
 use rules::MONTHS;
 use rules::kinds::Kind;
-use tables::Table;
+use fixed_tables::Table;
 
 mod entering;
 pub mod lending;

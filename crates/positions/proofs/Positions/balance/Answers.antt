@@ -1,6 +1,6 @@
 use Rattle.std.proofs.Common.{◌≡◌, ℕ, cond, Some, None, Option, sym, ap, ◌∙◌}
 use Rattle.plain.specs.PlainBook.{is_of}
-use Rattle.tables.specs.Tables.{rows_in}
+use Rattle.fixed_tables.specs.Tables.{rows_in}
 use Rattle.positions.specs.Entries.{balance_in}
 use Rattle.positions.specs.Places.{first_place}
 use Rattle.positions.specs.Rows.{plain_position, plain_positions}

@@ -1,6 +1,6 @@
 use Rattle.std.proofs.Common.{leb, ◌≡◌, not, None, Some, Option, ℕ, sym, ap, ◌∙◌}
 use Rattle.std.proofs.lemmas.List.{length-map}
-use Rattle.tables.specs.Tables.{rows_in}
+use Rattle.fixed_tables.specs.Tables.{rows_in}
 use Rattle.plain.specs.Limits.{most_positions}
 use Rattle.plain.specs.PlainBook.{is_of}
 use Rattle.positions.specs.Places.{first_place}

@@ -5,7 +5,7 @@ use Rattle.std.proofs.lemmas.Iterator.Consumers.{YieldsList-at, YieldsList-from_
 use Rattle.plain.specs.Exposures.{exposure_of, lent_by}
 use Rattle.plain.specs.Limits.{most_positions}
 use Rattle.plain.specs.Parts.{exposures}
-use Rattle.tables.specs.Tables.{rows_in}
+use Rattle.fixed_tables.specs.Tables.{rows_in}
 use Rattle.positions.specs.Rows.{plain_position}
 use Rattle.positions.proofs.Walks.{rows_on, on-view, exposures-rows}
 use Rattle.positions.proofs.Positions.exposure.Goals as goal

@@ -1,7 +1,7 @@
 use Rattle.std.proofs.Common.{eqb, ◌∙◌, rules, tests}
 use Rattle.std.proofs.lemmas.Iterator.{YieldsList-from_slice}
 use Rattle.std.proofs.lemmas.Iterator.Search.{any_from_yields_List}
-use Rattle.tables.specs.Tables.{rows_in}
+use Rattle.fixed_tables.specs.Tables.{rows_in}
 use Rattle.positions.specs.Rows.{plain_position}
 use Rattle.positions.proofs.Views.{any-view}
 use Rattle.positions.proofs.Positions.has_branch.Goals as goal

@@ -1,5 +1,5 @@
 use Rattle.std.proofs.Common.{length}
-use Rattle.tables.specs.Tables.{rows_in}
+use Rattle.fixed_tables.specs.Tables.{rows_in}
 use Rattle.positions.proofs.Walks.{LentSofar, rows_on}
 use Rattle.positions.proofs.Positions.lending.Given as goal
 

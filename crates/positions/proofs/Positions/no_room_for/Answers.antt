@@ -1,6 +1,6 @@
 use Rattle.std.proofs.Common.{◌≡◌, Bool, true, false, not, ◌&&◌, leb, length, is_some, sym, refl, ap, ◌∙◌}
 use Rattle.std.proofs.lemmas.List.{length-map}
-use Rattle.tables.specs.Tables.{rows_in}
+use Rattle.fixed_tables.specs.Tables.{rows_in}
 use Rattle.plain.specs.Limits.{most_positions}
 use Rattle.plain.specs.PlainBook.{is_of, position_of}
 use Rattle.positions.specs.Rows.{plain_position}

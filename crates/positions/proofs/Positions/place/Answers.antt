@@ -2,7 +2,7 @@ use Rattle.std.proofs.Common.{◌∙◌, rules, tests}
 use Rattle.std.proofs.lemmas.Iterator.{YieldsList-from_slice}
 use Rattle.std.proofs.lemmas.Iterator.Search.{position_from_yields_List}
 use Rattle.plain.specs.PlainBook.{is_of}
-use Rattle.tables.specs.Tables.{rows_in}
+use Rattle.fixed_tables.specs.Tables.{rows_in}
 use Rattle.positions.specs.Rows.{plain_position}
 use Rattle.positions.proofs.Views.{position-view}
 use Rattle.positions.proofs.Positions.place.Goals as goal

@@ -1,6 +1,6 @@
 // Making a table, reading its rows and writing them.
-ghost use Rattle.std.specs.Prelude.{◌≡◌, ◌<◌, ◌≤◌, [], ◌∷◌, ◌++◌, length, IfOk, nat_le, slice_set};
-ghost use Rattle.tables.specs.Tables.{rows_in};
+ghost use Rattle.std.specs.Prelude.{◌≡◌, ◌≤◌, [], ◌∷◌, ◌++◌, length, IfOk, if◌then◌else◌, Some, None, nat_le, nat_lt, slice_set};
+ghost use Rattle.fixed_tables.specs.Tables.{rows_in};
 
 use crate::Table;
 use std::alloc::{AllocError, Global};
@@ -36,19 +36,24 @@ impl<T: Drop, const MOST: usize> Table<T, MOST> {
         self.len() >= MOST
     }
 
-    // Adds a row at the end.
-    pub fn push(&mut self, row: T)
-        requires { length (rows_in self.old) < MOST }
-        ensures { rows_in self.new ≡ rows_in self.old ++ row ∷ [] }
+    // Adds a row at the end, and gives it back where the table is full.
+    pub fn push(&mut self, row: T) -> Option<T>
+        ensures rows { rows_in self.new ≡ (if nat_le MOST (length (rows_in self.old)) then rows_in self.old else rows_in self.old ++ row ∷ []) }
+        ensures back { result ≡ (if nat_le MOST (length (rows_in self.old)) then Some row else None) }
     {
+        if self.is_full() {
+            return Some(row);
+        }
         self.rows.push_reserved(row);
+        None
     }
 
-    // Writes another row over the one at a place.
+    // Writes another row over the one at a place; without one there, it changes nothing.
     pub fn set(&mut self, at: usize, row: T)
-        requires { at < length (rows_in self.old) }
-        ensures { rows_in self.new ≡ slice_set (rows_in self.old) at row }
+        ensures { rows_in self.new ≡ (if nat_lt at (length (rows_in self.old)) then slice_set (rows_in self.old) at row else rows_in self.old) }
     {
-        self.rows[at] = row;
+        if at < self.len() {
+            self.rows[at] = row;
+        }
     }
 }
