@@ -1,6 +1,6 @@
 // What is printed for a bill.
 ghost use Rattle.std.specs.Prelude.{◌≡◌, IfOk, Some, string_bytes};
-ghost use Rattle.bills.specs.Layout.{item_line, refusal_line, field_name, message_of};
+ghost use Rattle.bills.specs.Layout.{item_line, cause_at, refusal_line, field_name, message_of};
 
 use crate::reading::Malformed;
 use faults::Fault;
@@ -21,18 +21,30 @@ pub fn item_line(heap: Global, number: usize, item: Item) -> Result<String, Allo
     format!(in heap; "item {number}: row {row}, quantity {quantity}, grade {grade}: {kilograms} kg")
 }
 
-// What a refusal of a table says of the item at its place, from 1, or of the whole table at place 0.
+// What a refusal of a table says of the item at a place, from 1, or of the whole table at place 0.
+#[derive(Clone, Copy)]
+struct Cause(u32);
+
+impl fmt::Display for Cause {
+    ghost output = { λ c. Some (cause_at c.0) };
+
+    fn fmt<W: fmt::Write>(&self, f: &mut fmt::Formatter<W>) -> fmt::Result {
+        match self.0 {
+            0 => write!(f, ": more than 64 items"),
+            place => write!(
+                f,
+                " at item {place}: its row, quantity or grade is out of range, or it passes 10^12 kg"
+            ),
+        }
+    }
+}
+
 pub fn refusal_line(heap: Global, fault: Fault) -> Result<String, AllocError>
     ensures { IfOk result (λ s. string_bytes s ≡ refusal_line fault) }
 {
     let number = fault.refusal.number();
-    if fault.place == 0 {
-        return format!(in heap; "refusal {number}: more than 64 items");
-    }
-    let place = fault.place;
-    format!(in heap;
-        "refusal {number} at item {place}: its row, quantity or grade is out of range, or it passes 10^12 kg"
-    )
+    let cause = Cause(fault.place);
+    format!(in heap; "refusal {number}{cause}")
 }
 
 // What a field of an item's line is, from 0.
