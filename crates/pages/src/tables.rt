@@ -1,5 +1,5 @@
 // A page, from a table of accounts and a table of sheets.
-ghost use Rattle.std.specs.Prelude.{◌≡◌, ◌+◌, ◌^◌, ◌<◌, ◌≤◌, length};
+ghost use Rattle.std.specs.Prelude.{◌≡◌, ◌^◌, ◌<◌, ◌≤◌, length};
 ghost use Rattle.std.specs.List.{flat_map, AllByRecursion};
 ghost use Rattle.lines.specs.Writing.{Wrote};
 ghost use Rattle.pages.specs.Page.{account_line, branch_lines, given, page_of};
@@ -8,18 +8,18 @@ use crate::writers::{put_account, put_branch, put_head, put_total};
 use lines::writing::Writer;
 use plain::answers::{InvesteeAccount, Kilograms};
 
-// How many accounts a table holds. Reading an id shows that it has 32 bits, so that a page has room.
+// How many accounts a table holds. Only reading an id shows that it has 32 bits, so that a page has room: a chain that
+// counts would leave that open.
 fn held(accounts: &[Option<InvesteeAccount>]) -> usize
     ensures count { result ≡ length (given accounts.now) }
     ensures ids { AllByRecursion (λ a. a.id < 2 ^ 32) (given accounts.now) }
 {
     let mut n = 0;
     for account in accounts {
-        let Some(account) = account else {
-            continue;
-        };
-        let _id = account.id;
-        n += 1;
+        if let Some(account) = account {
+            let _id = account.id;
+            n += 1;
+        }
     }
     n
 }
@@ -29,21 +29,10 @@ fn put_accounts(page: &mut Writer<'_>, accounts: &[Option<InvesteeAccount>]) -> 
     requires { page.old.at ≤ length page.old.buffer.now }
     ensures { Wrote page.old (flat_map account_line (given accounts.now)) page.new result }
 {
-    for account in accounts {
-        let Some(account) = account else {
-            continue;
-        };
+    for account in accounts.iter().flatten() {
         put_account(page, *account)?;
     }
     Some(())
-}
-
-// The branch whose sheet stands at a place of the table.
-fn branch_at(place: usize) -> u64
-    requires { place + 1 < 2 ^ 64 }
-    ensures { result ≡ place + 1 }
-{
-    place as u64 + 1
 }
 
 // The lines of the branches that have a sheet, in ascending order.
@@ -52,10 +41,9 @@ fn put_sheets(page: &mut Writer<'_>, sheets: &[Option<Kilograms>]) -> Option<()>
     ensures { Wrote page.old (branch_lines 1 sheets.now) page.new result }
 {
     for (i, sheet) in sheets.iter().enumerate() {
-        let Some(sheet) = sheet else {
-            continue;
-        };
-        put_branch(page, branch_at(i), *sheet)?;
+        if let Some(sheet) = sheet {
+            put_branch(page, i + 1, *sheet)?;
+        }
     }
     Some(())
 }

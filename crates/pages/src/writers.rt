@@ -34,7 +34,7 @@ pub(crate) fn put_account(page: &mut Writer<'_>, account: InvesteeAccount) -> Op
 }
 
 // `B branch kilograms`
-pub(crate) fn put_branch(page: &mut Writer<'_>, branch: u64, sheet: Kilograms) -> Option<()>
+pub(crate) fn put_branch(page: &mut Writer<'_>, branch: usize, sheet: Kilograms) -> Option<()>
     ensures { Wrote page.old (branch_line branch sheet) page.new result }
 {
     page.put(b"B ")?;

@@ -1,5 +1,4 @@
 use book::book::Book;
-use faults::Fault;
 use pages::page::page;
 use rules::figures::Figures;
 use rules::investees::InvesteeFields;
@@ -8,14 +7,6 @@ use rules::rule::Rule;
 use sources::reported::Reported;
 use std::alloc::Global;
 use std::test::Fail;
-
-// The number of a refusal, and 0 where there is none.
-fn number<T: Drop>(res: Result<T, Fault>) -> u32 {
-    match res {
-        Ok(_) => 0,
-        Err(fault) => fault.refusal.number(),
-    }
-}
 
 // A general loan to an investee of medium size, with a revenue of 10,000 wan.
 fn loan(id: u64) -> InvesteeFields {
@@ -72,10 +63,9 @@ fn one_byte_short(rt: HostRuntime) -> Result<(), Fail> {
     let mut book = Book::new(rt.alloc(), &National)?;
     book.open(loan(7), &reported(1_001))?;
     let mut buffer = vec![in rt.alloc(); b'.'; 8_191]?;
-    assert_eq!(rt; number(page(&book, buffer.as_mut_slice())), 33);
-    for byte in buffer.as_slice() {
-        assert_eq!(rt; *byte, b'.');
-    }
+    let refusal = page(&book, buffer.as_mut_slice()).err();
+    assert_eq!(rt; refusal.map(|fault| fault.refusal.number()), Some(33));
+    assert!(rt; buffer.iter().all(|byte| *byte == b'.'));
     Ok(())
 }
 
