@@ -1,5 +1,5 @@
 -- A call that is declined, and one that is accepted.
-use Rattle.std.proofs.Common.{◌≡◌, IsErrAnd, Some, None, Err, Option, Result, sym, refl, ap, ◌∙◌}
+use Rattle.std.proofs.Common.{◌≡◌, IsErrAnd, Some, None, Err, Option, Result, sym, ap, ◌∙◌}
 use Rattle.std.proofs.lemmas.Result.{err_from_is_err_and}
 use Rattle.faults.specs.declared.Fault.{Fault}
 use Rattle.rules.specs.Tables.{Tables}
@@ -24,14 +24,6 @@ module _ (t : Tables) (p : PlainBook) (c : Step) where
 
   pub answer-accepted : declined t p c ≡ None → answer t p c ≡ gives t p c
   answer-accepted e = ap (λ (o : Option Fault). unless o (gives t p c) Declined) e
-
-  -- a reading changes nothing, accepted or declined
-  pub nothing-changed : changed p c ≡ p → after t p c ≡ p
-  nothing-changed same = by (declined t p c)
-    where
-      by : (o : Option Fault) → unless o (changed p c) (λ f. p) ≡ p
-      by None = same
-      by (Some f) = refl
 
   -- a call that changes the book and fails, where the exit of a `?` passes the fault on as it is
   pub failed : (f : Fault) → declined t p c ≡ Some f → (r : Result (Unit {0}) Fault) → IsErrAnd r (λ y. y ≡ f) → (p ≡ after t p c) × (told done r ≡ answer t p c)

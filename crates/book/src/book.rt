@@ -1,5 +1,5 @@
 // The book as it is kept.
-ghost use Rattle.std.specs.Prelude.{◌≡◌, ◌≤◌, vec_len, vec_capacity};
+ghost use Rattle.std.specs.Prelude.{◌≤◌, vec_len, vec_capacity};
 ghost use Rattle.plain.specs.Kept.{KeptByEveryRun};
 ghost use Rattle.plain.specs.Limits.{most_investees};
 ghost use Rattle.book.specs.Rows.{plain_rows};

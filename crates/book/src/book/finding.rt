@@ -1,5 +1,5 @@
 // Finding an investee, and what was lent to it.
-ghost use Rattle.std.specs.Prelude.{◌≡◌, ok_or, option_map, position};
+ghost use Rattle.std.specs.Prelude.{◌≡◌, ok_or, position};
 ghost use Rattle.faults.specs.Refusals.{fault};
 ghost use Rattle.faults.specs.declared.Refusal.TheVariants.{NotOpen};
 ghost use Rattle.plain.specs.Exposures.{exposure_to};

@@ -1,16 +1,13 @@
 // Any calls, one by one or a whole run of them.
 ghost use Rattle.std.specs.Prelude.{◌≡◌, min, ◌++◌, length, take, drop};
-ghost use Rattle.plain.specs.declared.answers.Answer.TheVariants.{Part, Total, Sheet, Book as BookAnswer};
 ghost use Rattle.plain.specs.EveryRun.{AtEachPoint, AtEachPointFromTheStart, ReachedByARun};
 ghost use Rattle.plain.specs.Runs.{after, answer, answered, run};
 ghost use Rattle.book.specs.Calls.{step_of, steps_of};
-ghost use Rattle.book.specs.Told.{told, done};
 ghost use Rattle.book.specs.View.{plain};
 
 use crate::book::Book;
 use crate::calls::Call;
-use faults::Fault;
-use plain::answers::{Answer, InvesteeTotal, Kilograms};
+use plain::answers::Answer;
 use rules::rule::Rule;
 use sources::source::Source;
 

@@ -1,5 +1,5 @@
 // The readings of one investee, the part of a branch and the total, and the totals of all.
-ghost use Rattle.std.specs.Prelude.{◌≡◌, replicate, None};
+ghost use Rattle.std.specs.Prelude.{◌≡◌, None};
 ghost use Rattle.plain.specs.declared.answers.Answer.TheVariants.{Part, Total};
 ghost use Rattle.plain.specs.Limits.{most_investees};
 ghost use Rattle.plain.specs.Readings.{account_of, accounts_of};
@@ -7,14 +7,12 @@ ghost use Rattle.plain.specs.Runs.{answer};
 ghost use Rattle.plain.specs.Steps.{ask_part, ask_total};
 ghost use Rattle.book.specs.Listed.{listed};
 ghost use Rattle.book.specs.Rows.{plain_investee};
-ghost use Rattle.book.specs.Standings.{WithinBook};
 ghost use Rattle.book.specs.Told.{told};
 ghost use Rattle.book.specs.View.{plain};
 
 use crate::book::Book;
 use crate::book::readings::Held;
 use crate::filled::filled;
-use crate::rows::InvesteeRow;
 use faults::{Fault, Refusal};
 use plain::answers::{InvesteeAccount, InvesteeTotal, Kilograms};
 use plain::limits::{MOST_INVESTEES, branch_out_of_range};

@@ -1,15 +1,15 @@
 // What the investees of a book add to its totals, line by line.
-ghost use Rattle.std.specs.Prelude.{◌≡◌, ◌*◌, ◌≤◌, length, replicate};
+ghost use Rattle.std.specs.Prelude.{◌≡◌, ◌*◌, ◌≤◌, length};
 ghost use Rattle.std.specs.List.{AllByRecursion};
 ghost use Rattle.plain.specs.Limits.{most_investees, most_positions};
 ghost use Rattle.plain.specs.Readings.{project_kind, hundredths};
 ghost use Rattle.plain.specs.Exposures.{emissions as of_emissions, reductions as of_reductions};
-ghost use Rattle.book.specs.Lines.{no_line, weight_of, grade_of, covered, takes, taken, plus_line, no_sums, sums_of, subtotal_from, book_total_from, LineWithinLimits, AtMostLines};
+ghost use Rattle.book.specs.Lines.{weight_of, grade_of, covered, takes, taken, plus_line, no_sums, sums_of, subtotal_from, book_total_from, LineWithinLimits, AtMostLines};
 
 use crate::book::readings::{NO_KILOGRAMS, added};
 use grading::{Graded, mean};
 use plain::answers::{BookTotal, Kilograms, Subtotal};
-use plain::limits::{MOST_EXPOSURE, MOST_INVESTEES};
+use plain::limits::MOST_EXPOSURE;
 use rules::kinds::Kind;
 
 mod totals;

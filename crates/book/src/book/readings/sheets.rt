@@ -1,5 +1,5 @@
 // The sheet of a branch.
-ghost use Rattle.std.specs.Prelude.{◌≡◌, ℕ, ◌+◌, ◌<◌, length, replicate, if◌then◌else◌, Some, None, slice_index_or};
+ghost use Rattle.std.specs.Prelude.{◌≡◌, ℕ, ◌+◌, ◌<◌, length, if◌then◌else◌, Some, None, slice_index_or};
 ghost use Rattle.plain.specs.Branches.{branch_count};
 ghost use Rattle.plain.specs.declared.answers.Answer.TheVariants.{Sheet};
 ghost use Rattle.plain.specs.Readings.{has_position, part_of, sheet_of, sheets_of};
@@ -7,14 +7,13 @@ ghost use Rattle.plain.specs.Runs.{answer};
 ghost use Rattle.plain.specs.Steps.{ask_sheet};
 ghost use Rattle.book.specs.Rows.{plain_investee};
 ghost use Rattle.book.specs.Shares.{no_kilograms};
-ghost use Rattle.book.specs.Standings.{WithinBook, RoomForParts, WithParts};
+ghost use Rattle.book.specs.Standings.{RoomForParts, WithParts};
 ghost use Rattle.book.specs.Told.{told};
 ghost use Rattle.book.specs.View.{plain};
 
 use crate::book::Book;
 use crate::book::readings::{Held, NO_KILOGRAMS, added, shares};
 use crate::filled::filled;
-use crate::rows::InvesteeRow;
 use faults::{Fault, Refusal};
 use plain::answers::Kilograms;
 use plain::limits::{BRANCHES, branch_out_of_range};

@@ -5,7 +5,6 @@ ghost use Rattle.plain.specs.Runs.{answer};
 ghost use Rattle.plain.specs.Steps.{ask_book_total};
 ghost use Rattle.book.specs.Lines.{line_of};
 ghost use Rattle.book.specs.Rows.{plain_investee};
-ghost use Rattle.book.specs.Standings.{WithinBook};
 ghost use Rattle.book.specs.View.{plain};
 
 use crate::book::Book;
