@@ -13,10 +13,7 @@ use std::test::Fail;
 
 // The number of a refusal, and 0 where there is none.
 fn number<T: Drop>(res: Result<T, Fault>) -> u32 {
-    match res {
-        Ok(_) => 0,
-        Err(fault) => fault.refusal.number(),
-    }
+    res.err().map_or(0, |fault| fault.refusal.number())
 }
 
 // An investee of medium size with every figure given.
@@ -39,6 +36,13 @@ fn fields(id: u64, kind: u64) -> InvesteeFields {
 
 fn reported(kilograms: u64) -> Reported {
     Reported { kilograms, mark: 1 }
+}
+
+fn kilograms(emissions: i64, reductions: i64) -> Kilograms {
+    Kilograms {
+        emissions,
+        reductions,
+    }
 }
 
 // What was saved since a base period of so many kilograms, with 1,000 emitted now.
@@ -119,16 +123,8 @@ fn smallest_figures(rt: HostRuntime) -> Result<(), Fail> {
     let cases = [(999, -1), (1_000, 0), (1_001, 1)];
     for (base, reductions) in cases {
         assert_eq!(rt; number(book.reduce(7, &saved(base))), 0);
-        let first = Kilograms {
-            emissions: 0,
-            reductions: 0,
-        };
-        let second = Kilograms {
-            emissions: 1,
-            reductions,
-        };
-        assert_eq!(rt; book.part(7, 1).ok(), Some(first));
-        assert_eq!(rt; book.part(7, 2).ok(), Some(second));
+        assert_eq!(rt; book.part(7, 1).ok(), Some(kilograms(0, 0)));
+        assert_eq!(rt; book.part(7, 2).ok(), Some(kilograms(1, reductions)));
     }
     Ok(())
 }
@@ -138,13 +134,9 @@ fn rule_that_counts_nobody(rt: HostRuntime) -> Result<(), Fail> {
     let mut book = Book::new(rt.alloc(), &Nobody)?;
     assert_eq!(rt; number(book.open(fields(7, 5), &reported(1_000))), 0);
     assert_eq!(rt; number(book.post(1, 7, 1, 60_000)), 0);
-    let none = Kilograms {
-        emissions: 0,
-        reductions: 0,
-    };
-    assert_eq!(rt; book.part(7, 1).ok(), Some(none));
+    assert_eq!(rt; book.part(7, 1).ok(), Some(kilograms(0, 0)));
     let total = book.book_total();
-    assert_eq!(rt; total.all.kilograms, none);
+    assert_eq!(rt; total.all.kilograms, kilograms(0, 0));
     assert_eq!(rt; total.all.emissions_cover, Some(0));
     assert_eq!(rt; total.mean_grade, None);
     Ok(())
@@ -157,13 +149,10 @@ fn own_source_and_declined_calls(rt: HostRuntime) -> Result<(), Fail> {
         kilograms: 1_000,
         hours_down: 101,
     };
-    match book.open(fields(7, 5), &Measured { log: &log }) {
-        Ok(_) => return Err(Fail::new("accepted")),
-        Err(fault) => {
-            assert_eq!(rt; fault.refusal.number(), 7_001);
-            assert_eq!(rt; fault.source, 101);
-        }
-    }
+    let declined = book.open(fields(7, 5), &Measured { log: &log });
+    let fault = declined.err().ok_or("accepted")?;
+    assert_eq!(rt; fault.refusal.number(), 7_001);
+    assert_eq!(rt; fault.source, 101);
     assert_eq!(rt; number(book.open(fields(7, 5), &reported(1_000))), 0);
     assert_eq!(rt; number(book.post(1, 7, 1, 60_000)), 0);
     let before = book.sheet(1).ok();
@@ -185,14 +174,11 @@ fn accounts_and_sheets(rt: HostRuntime) -> Result<(), Fail> {
     assert_eq!(rt; sheets[0], None);
     assert_eq!(rt; sheets[39], book.sheet(40).ok());
     assert!(rt; accounts[2].is_none());
-    match (accounts[0], accounts[1]) {
-        (Some(first), Some(second)) => {
-            assert_eq!(rt; first.id, 7);
-            assert_eq!(rt; second.id, 5);
-            assert_eq!(rt; first.total.kilograms.emissions, 0);
-            assert_eq!(rt; Some(second.total.kilograms), sheets[39]);
-            Ok(())
-        }
-        _ => Err(Fail::new("an account is missing")),
-    }
+    let first = accounts[0].ok_or("the first account is missing")?;
+    let second = accounts[1].ok_or("the second account is missing")?;
+    assert_eq!(rt; first.id, 7);
+    assert_eq!(rt; second.id, 5);
+    assert_eq!(rt; first.total.kilograms.emissions, 0);
+    assert_eq!(rt; Some(second.total.kilograms), sheets[39]);
+    Ok(())
 }
