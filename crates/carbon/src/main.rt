@@ -14,7 +14,7 @@ fn main(rt: HostRuntime) -> io::Result<()> {
         .read_to_end(&mut bytes)?;
     let mut buffer = [0; ROOM];
     if let Ok(length) = answer(rt.alloc(), bytes.as_slice(), &mut buffer)? {
-        rt.stdout().write_all(&buffer[0..length])?;
+        rt.stdout().write_all(&buffer[..length])?;
     }
     Ok(())
 }
