@@ -1,26 +1,12 @@
 -- The line of an investee as a program holds it.
-use Rattle.std.proofs.Common.{◌≡◌, ℕ, ◌≤◌, ltb, List, [], ◌∷◌, length, Ok, Err, Result, sym, refl, ap, ◌∙◌, arith}
+use Rattle.std.proofs.Common.{◌≡◌, ℕ, ◌≤◌, ltb, List, [], ◌∷◌, length, Ok, Err, sym, refl, ap, ◌∙◌, arith}
 use Rattle.std.proofs.lemmas.Bool.{le-ltb, cond-false}
-use Rattle.entries.specs.Entries.{PlainMethod, PlainEntry, held_method, held_entry}
+use Rattle.entries.specs.Entries.{PlainMethod, PlainEntry, held_entry}
 use Rattle.entries.specs.declared.investee.InvesteeEntry.{InvesteeEntry}
-use Rattle.entries.specs.declared.method.Method.{Method}
 use Rattle.portfolio_lines.specs.declared.misread.Misread.{Misread}
-use Rattle.portfolio_lines.specs.declared.misread.Misread.TheVariants.{Field}
 use Rattle.portfolio_lines.specs.Counted.{FieldsLeft, Reading, and_then, fields_of, numbers_in, none_left, none_at}
-use Rattle.portfolio_lines.specs.Lines.{entry_of, entry_in, investee_of, held_over, held_in, held_line}
+use Rattle.portfolio_lines.specs.Lines.{entry_of, entry_in, investee_of, held_in, held_line}
 use Rattle.portfolio_lines.specs.Methods.{method_in, held}
-
-with-method : (ns : List ℕ) (m : Method) (left : FieldsLeft) (x : Reading PlainMethod) → held x ≡ Ok (m, left) → held_in (and_then x (λ s. Ok (entry_of ns s.0, s.1))) ≡ Ok (held_over ns m, left)
-with-method ns m left (Ok r) h = let pair : ◌≡◌ {A = Method × FieldsLeft} (held_method r.0, r.1) (m, left) = cc in ap (λ x. Ok (held_over ns x.0, x.1)) pair
-with-method ns m left (Err p) h = let z : ◌≡◌ {A = ℕ} 0 1 = cc in absurd (omega arith)
-
-entry-over : (k : ℕ) (f g left : FieldsLeft) (ns : List ℕ) (m : Method) → numbers_in k f ≡ Ok (ns, g) → held (method_in g) ≡ Ok (m, left)
-    → held_in (and_then (numbers_in k f) (λ r. and_then (method_in r.1) (λ s. Ok (entry_of r.0 s.0, s.1)))) ≡ Ok (held_over ns m, left)
-entry-over k f g left ns m head method =
-    ap (λ x. held_in (and_then x (λ r. and_then (method_in r.1) (λ s. Ok (entry_of r.0 s.0, s.1))))) head ∙ with-method ns m left (method_in g) method
-
-pub entry_read : (f g left : FieldsLeft) (ns : List ℕ) (m : Method) → numbers_in 13 f ≡ Ok (ns, g) → held (method_in g) ≡ Ok (m, left) → held_in (entry_in f) ≡ Ok (held_over ns m, left)
-entry_read = entry-over 13
 
 method-wrong : (ns : List ℕ) (p : Misread) (x : Reading PlainMethod) → held x ≡ Err p → held_in (and_then x (λ s. Ok (entry_of ns s.0, s.1))) ≡ Err p
 method-wrong ns p (Ok r) h = let z : ◌≡◌ {A = ℕ} 0 1 = cc in absurd (omega arith)
@@ -53,15 +39,8 @@ none-gives : {X : Type 0} (x : X) (place : ℕ) (fs : List (List ℕ)) (u : Unit
 none-gives x place [] u h = refl
 none-gives x place (f ∷ fs) u h = let z : ◌≡◌ {A = ℕ} 0 1 = cc in absurd (omega arith)
 
-none-refuses : {X : Type 0} (x : X) (place : ℕ) (fs : List (List ℕ)) (p : Misread) → ◌≡◌ {A = Result (Unit {0}) Misread} (Err p) (none_at tt place fs) → none_at x place fs ≡ Err p
-none-refuses x place [] p h = let z : ◌≡◌ {A = ℕ} 0 1 = cc in absurd (omega arith)
-none-refuses x place (f ∷ fs) p h = let same : p ≡ Field place = cc in ap Err (sym same)
-
 pub line-wrong : (line : List ℕ) (f : FieldsLeft) (p : Misread) → length line ≤ 511 → f ≡ fields_of line → held_in (entry_in f) ≡ Err p → Err p ≡ held_line (investee_of line)
 line-wrong line f p short is reads = sym (by-fields line f (Err p) short is reads)
-
-pub line-surplus : (line : List ℕ) (f left : FieldsLeft) (e : InvesteeEntry) (p : Misread) → length line ≤ 511 → f ≡ fields_of line → held_in (entry_in f) ≡ Ok (e, left) → ◌≡◌ {A = Result (Unit {0}) Misread} (Err p) (none_left tt left) → Err p ≡ held_line (investee_of line)
-line-surplus line f left e p short is reads more = sym (by-fields line f (Ok (e, left)) short is reads ∙ none-refuses e left.place left.left p more)
 
 pub line_read : (line : List ℕ) (f left : FieldsLeft) (e : InvesteeEntry) (u : Unit {0}) → length line ≤ 511 → f ≡ fields_of line → held_in (entry_in f) ≡ Ok (e, left) → Ok u ≡ none_left tt left → Ok e ≡ held_line (investee_of line)
 line_read line f left e u short is reads none = sym (by-fields line f (Ok (e, left)) short is reads ∙ none-gives e left.place left.left u none)

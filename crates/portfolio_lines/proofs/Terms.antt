@@ -1,12 +1,10 @@
 -- Terms of an energy bill read pair by pair.
-use Rattle.std.proofs.Common.{◌≡◌, ℕ, suc, ◌+◌, ◌-◌, ◌<◌, ◌≤◌, List, [], ◌∷◌, ◌++◌, Ok, Err, sym, refl, ap, ◌∙◌, append_assoc, append-nil, arith}
-use native.Mathlib.Nat.{sub-zero}
+use Rattle.std.proofs.Common.{◌≡◌, ℕ, suc, ◌+◌, ◌-◌, ◌<◌, List, [], ◌∷◌, ◌++◌, Ok, Err, sym, refl, ap, ◌∙◌, append_assoc, arith}
 use Rattle.factors.specs.declared.Activity.{Activity}
 use Rattle.entries.specs.Bills.{bill_of}
 use Rattle.entries.specs.declared.method.Bill.{Bill}
-use Rattle.portfolio_lines.specs.declared.misread.Misread.{Misread}
 use Rattle.portfolio_lines.specs.Counted.{FieldsLeft, Reading, and_then, numbers_in}
-use Rattle.portfolio_lines.specs.Methods.{term_of, terms_in, in_front, held_bill}
+use Rattle.portfolio_lines.specs.Methods.{term_of, terms_in, in_front}
 
 -- terms read before, in front of what the rest reads as
 abbrev pub after : List Activity → Reading (List Activity) → Reading (List Activity)
@@ -17,16 +15,9 @@ after terms (Err p) = Err p
 abbrev pub Sofar : (n i : ℕ) (was : FieldsLeft) (held : Bill) (left : FieldsLeft) → Type 0
 Sofar n i was held left = (terms : List Activity) × (held ≡ bill_of terms) × (terms_in n was ≡ after terms (terms_in (n - i) left))
 
-after_none : (r : Reading (List Activity)) → after [] r ≡ r
-after_none (Ok r) = refl
-after_none (Err p) = refl
-
 after_front : (terms : List Activity) (term : Activity) (r : Reading (List Activity)) → after terms (in_front term r) ≡ after (terms ++ term ∷ []) r
 after_front terms term (Ok r) = ap (λ l. Ok (l, r.1)) (sym (append_assoc terms (term ∷ []) r.0))
 after_front terms term (Err p) = refl
-
-pub sofar-none : (n : ℕ) (was : FieldsLeft) (held : Bill) → held ≡ bill_of [] → Sofar n 0 was held was
-sofar-none n was held none = ([], none, sym (rw (sub-zero n) (after_none (terms_in n was))))
 
 step : (n i : ℕ) (left : FieldsLeft) → i < n → terms_in (n - i) left ≡ and_then (numbers_in 2 left) (λ r. in_front (term_of r.0) (terms_in (n - (i + 1)) r.1))
 step n i left lt = let turns : n - i ≡ suc (n - (i + 1)) = omega arith in ap (λ m. terms_in m left) turns
@@ -40,12 +31,3 @@ sofar-more n i was held grown left next ns lt (terms, is, so) read adds = (
   adds terms is,
   so ∙ ap (after terms) (step n i left lt ∙ ap (λ r. and_then r (λ r. in_front (term_of r.0) (terms_in (n - (i + 1)) r.1))) read) ∙ after_front terms (term_of ns) (terms_in (n - (i + 1)) next),
 )
-
-pub sofar-wrong : (n i : ℕ) (was : FieldsLeft) (held : Bill) (left : FieldsLeft) (p : Misread) → i < n → Sofar n i was held left → numbers_in 2 left ≡ Err p → held_bill (terms_in n was) ≡ Err p
-sofar-wrong n i was held left p lt (terms, is, so) read =
-    ap held_bill (so ∙ ap (after terms) (step n i left lt ∙ ap (λ r. and_then r (λ r. in_front (term_of r.0) (terms_in (n - (i + 1)) r.1))) read))
-
-pub sofar-all : (n i : ℕ) (was : FieldsLeft) (held : Bill) (left : FieldsLeft) → n ≤ i → Sofar n i was held left → held_bill (terms_in n was) ≡ Ok (held, left)
-sofar-all n i was held left le (terms, is, so) =
-    let none : n - i ≡ 0 = omega arith in
-    ap held_bill (so ∙ ap (λ m. after terms (terms_in m left)) none) ∙ ap (λ l. Ok (bill_of l, left)) (append-nil terms) ∙ ap (λ b. Ok (b, left)) (sym is)

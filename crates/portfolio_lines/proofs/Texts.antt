@@ -7,7 +7,7 @@ use Rattle.lines.specs.Render.{join, printed, LineOfNumbers}
 use Rattle.lines.proofs.Printed.{Free, join-pieces, pieces-join}
 use Rattle.portfolio_lines.specs.Counted.{FieldsLeft, Reading, and_then, fields_of, numbers_in, none_at, none_left}
 use Rattle.portfolio_lines.specs.Lines.{whole_line, number_line, key_from, key_of, balance_of}
-use Rattle.portfolio_lines.specs.Text.{ThirteenDigits, key_numbers, ReadsRows, ReadsKeys, ReadsBalances}
+use Rattle.portfolio_lines.specs.Text.{ThirteenDigits, key_numbers, ReadsKeys, ReadsBalances}
 use Rattle.portfolio_lines.specs.declared.misread.Misread.{Misread}
 use Rattle.portfolio_lines.specs.declared.misread.Misread.TheVariants.{TooLong}
 use Rattle.portfolio_lines.specs.declared.posts.Key.{Key}
@@ -65,9 +65,6 @@ pub row_reads : (k : ℕ) (line ns : List ℕ) → 0 < k → LineOfNumbers k ns 
 row_reads k line ns some l =
     let fields : pieces 32 line ≡ map decimal ns ++ [] = split-numbers ns line (omega (arith, l.count)) l.bytes_are l.digits ∙ sym (append-nil (map decimal ns)) in
     whole-gives (numbers_in k) line ns (1 + k) l.short (numbers-gives k 1 (pieces 32 line) ns [] l.count (record { small = l.digits; spelled = fields }))
-
-pub reads_rows : (k : ℕ) (line : List ℕ) (r : Result (List ℕ) Misread) → 0 < k → r ≡ number_line k line → ReadsRows k line r
-reads_rows k line r some is ns = (λ h. row_line k line ns (sym is ∙ h), λ l. is ∙ row_reads k line ns some l)
 
 -- ---- numbers by their places
 

@@ -1,6 +1,5 @@
 use Rattle.std.proofs.Common.{Err, sym, ap, ◌∙◌, arith}
 use Rattle.portfolio_lines.proofs.Counts.{by_places, line-by-places, place-fits}
-use Rattle.portfolio_lines.proofs.Texts.{reads_rows}
 use Rattle.portfolio_lines.proofs.row.read_row.Goals as goal
 
 pub misread-requires : goal.misread-requires
@@ -11,9 +10,3 @@ returns-in-Ok-clause-value g c = ap (by_places g.row.K) c.in-Ok.ensures.value �
 
 pub returns-in-Err-clause-value : goal.returns-in-Err-clause-value
 returns-in-Err-clause-value g c = ap Err c.misread.ensures ∙ ap (by_places g.row.K) c.in-Err.ensures.value ∙ sym (line-by-places g.row.K c.args.line.now)
-
-pub returns-in-Ok-clause-lines : goal.returns-in-Ok-clause-lines
-returns-in-Ok-clause-lines g c = λ some. reads_rows _ _ _ some (returns-in-Ok-clause-value g c)
-
-pub returns-in-Err-clause-lines : goal.returns-in-Err-clause-lines
-returns-in-Err-clause-lines g c = λ some. reads_rows _ _ _ some (returns-in-Err-clause-value g c)
