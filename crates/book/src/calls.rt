@@ -1,7 +1,7 @@
 // The calls on a book as values, so that a run of them can be handed over at once.
 use rules::investees::InvesteeFields;
 
-// A call, with numbers as a caller sends them. Calls of one run have sources of one type: sources::Either joins two.
+// A call, with numbers as a caller sends them. Calls of one run have sources of one type: `either::Either` joins two.
 #[derive(Drop)]
 pub enum Call<S> {
     Open {

@@ -53,6 +53,6 @@ impl InvesteeRow {
     pub(crate) fn has_id(self, id: u64) -> bool
         ensures { result ≡ has_id id (plain_investee self) }
     {
-        self.profile.id as u64 == id
+        u64::from(self.profile.id) == id
     }
 }

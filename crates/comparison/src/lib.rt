@@ -1,7 +1,7 @@
 // What both guides say of an investee, as a line of text.
 #![tactic(auto)]
 
-ghost use Rattle.std.specs.Prelude.{◌≡◌, IfOk, Some, string_bytes};
+ghost use Rattle.std.specs.Prelude.{◌≡◌, IfOk, string_bytes};
 ghost use Rattle.comparison.specs.Lines.{base_text, answer_text, facts_text, line_text};
 
 use faults::Refusal;

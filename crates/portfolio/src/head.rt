@@ -34,18 +34,14 @@ pub fn read_head(line: &[u8]) -> Result<Head, Stop>
     ensures value { result ≡ head_of line.now }
     ensures limits { IfOk result (λ h. (h.investees ≤ 200) × (h.posts ≤ 1000)) }
 {
-    match read_row::<3>(line) {
-        Err(misread) => Err(wrong_field(HEAD_LINE, misread)),
-        Ok(numbers) => {
-            let [investees, posts, guide] = numbers;
-            match Guide::try_from(guide) {
-                Ok(guide) if within_limits(investees, posts) => Ok(Head {
-                    investees: investees as usize,
-                    posts: posts as usize,
-                    guide,
-                }),
-                _ => Err(file_beyond()),
-            }
-        }
+    let not_laid_out = |misread| wrong_field(HEAD_LINE, misread);
+    let [investees, posts, guide] = read_row::<3>(line).map_err(not_laid_out)?;
+    match Guide::try_from(guide) {
+        Ok(guide) if within_limits(investees, posts) => Ok(Head {
+            investees: investees as usize,
+            posts: posts as usize,
+            guide,
+        }),
+        _ => Err(file_beyond()),
     }
 }

@@ -40,6 +40,7 @@ impl<'a> Walk<'a> {
             let Some(line) = next_line(&mut self.lines) else {
                 return Err(line_missing(number));
             };
+            // No map_err with `?`: a proof knows nothing of what a closure over this reader's answer gives.
             if let Err(misread) = read(line) {
                 return Err(wrong_field(number, misread));
             }

@@ -1,8 +1,8 @@
 -- Finding a row and changing it, by its place.
-use Rattle.std.proofs.Common.{◌≡◌, ℕ, zero, suc, ◌+◌, ◌<◌, ◌≤◌, Bool, true, false, cond, not, ltb, List, [], ◌∷◌, map, length, get_or, drop, set, is_some, Some, None, sym, refl, ap, ◌∙◌, ⊎_elim, arith}
+use Rattle.std.proofs.Common.{◌≡◌, ℕ, zero, suc, ◌<◌, ◌≤◌, Bool, true, false, cond, ltb, List, [], ◌∷◌, map, length, get_or, set, is_some, Some, None, sym, refl, ap, ◌∙◌, ⊎_elim, arith}
 use Rattle.std.specs.List.{AllByRecursion}
-use Rattle.std.proofs.lemmas.List.{at_drop_more, at_drop_all, length-map, get_or-map, get_or_default, map-set}
-use Rattle.std.proofs.lemmas.Bool.{lt-ltb, le-ltb, not_from_true, not_from_false, cond-true, cond-false, cases_lt}
+use Rattle.std.proofs.lemmas.List.{length-map, get_or-map, get_or_default, map-set}
+use Rattle.std.proofs.lemmas.Bool.{lt-ltb, le-ltb, cond-true, cond-false, cases_lt}
 use Rattle.plain.specs.Lists.{first_of, change_first}
 use Rattle.plain.proofs.Lists.{place_of, first-at, first_past, change-at}
 use Rattle.positions.specs.Places.{first_place, change_at}
@@ -117,26 +117,3 @@ written-view view change xs k old new h is e =
 pub written-at : {X Y : Type 0} (view : X → Y) (change : Y → Y) (xs read : List X) (k : ℕ) (d new : X) → read ≡ xs → k < length xs → view new ≡ change (view (get_or read k d)) → map view (set xs k new) ≡ change_at k change (map view xs)
 written-at view change xs read k d new same h e =
     written-view view change xs k (get_or read k d) new h (get_or_default read k d (get_or read k d) (omega (arith, h, ap length same)) ∙ ap (λ l. get_or l k (get_or read k d)) same) e
-
--- ---- a walk that looks for the first row whose view passes
-
-module _ {X Y : Type 0} (view : X → Y) (test : Y → Bool) (xs : List X) where
-  -- none of the first k passes
-  abbrev pub NotYet : ℕ → Type 0
-  NotYet k = (k ≤ length xs) × (k + place_of test (map view (drop k xs)) ≡ place_of test (map view xs))
-
-  next : (k : ℕ) (d : X) → k < length xs → place_of test (map view (drop k xs)) ≡ cond (not (test (view (get_or xs k d)))) (1 + place_of test (map view (drop (k + 1) xs))) 0
-  next k d h = at_drop_more (λ l. place_of test (map view l)) xs k d h
-
-  pub walk-on : (k : ℕ) (d : X) → k < length xs → test (view (get_or xs k d)) ≡ false → NotYet k → NotYet (k + 1)
-  walk-on k d h off inv = (omega arith, let e = next k d h ∙ cond-true _ _ _ (not_from_false _ off) in omega (arith, e, inv.1))
-
-  pub walk-finds : (k : ℕ) (d : X) → k < length xs → test (view (get_or xs k d)) ≡ true → NotYet k → Some k ≡ first_place test (map view xs)
-  walk-finds k d h on inv =
-      let e = next k d h ∙ cond-false _ _ _ (not_from_true _ on) in
-      found-place test (map view xs) k (omega (arith, e, inv.1)) (omega (arith, length-map xs view))
-
-  pub walk_ends : (k : ℕ) → length xs ≤ k → NotYet k → None ≡ first_place test (map view xs)
-  walk_ends k h inv =
-      let e : place_of test (map view (drop k xs)) ≡ 0 = at_drop_all (λ l. place_of test (map view l)) xs k h in
-      no_place test (map view xs) (omega (arith, e, inv.1, inv.0, length-map xs view))

@@ -10,8 +10,8 @@ ghost use Rattle.positions.specs.View.{positions_in};
 ghost use Rattle.positions.specs.Years.{in_year};
 
 use crate::{PositionRow, Positions, in_year};
-use std::alloc::{AllocError, Global};
 use fixed_tables::Table;
+use std::alloc::{AllocError, Global};
 
 impl Positions {
     // A table without positions. It reserves all the memory that the table will use.

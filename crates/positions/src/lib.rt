@@ -10,10 +10,10 @@ ghost use Rattle.positions.specs.Entries.{written};
 ghost use Rattle.positions.specs.Rows.{plain_position};
 ghost use Rattle.positions.specs.Years.{in_year};
 
+use fixed_tables::Table;
 use plain::limits::MOST_POSITIONS;
 use rules::MONTHS;
 use rules::kinds::Kind;
-use fixed_tables::Table;
 
 mod entering;
 pub mod lending;

@@ -40,7 +40,7 @@ impl<'r, R: Rule> Book<'r, R> {
         ensures { result ≡ taken_by (R.tables self.now.rule.now) (plain self.now) fields }
     {
         let profile = fields.checked()?;
-        if self.is_open(profile.id as u64) {
+        if self.is_open(u64::from(profile.id)) {
             return Err(Fault::plain(Refusal::AlreadyOpen));
         }
         if self.is_full() {

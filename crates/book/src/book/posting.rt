@@ -62,7 +62,7 @@ fn passes(exposure: u64, base: Result<Base, Refusal>) -> bool
     ensures { result ≡ passes exposure (denominator_from base) }
 {
     match base {
-        Ok(Base::Amount(amount)) => exposure as u128 > MONTHS as u128 * amount as u128,
+        Ok(Base::Amount(amount)) => u128::from(exposure) > u128::from(MONTHS) * u128::from(amount),
         _ => false,
     }
 }

@@ -41,11 +41,11 @@ impl Graded for Line {
     }
 
     fn grade(&self) -> u64 {
-        (self.grade as u64).min(5)
+        u64::from(self.grade).min(5)
     }
 }
 
-// The investees that a subtotal is of.
+// The investees that a subtotal is of: an enum and no closure, so that the definitions can name a group.
 #[derive(Clone, Copy)]
 enum Group {
     Projects,
