@@ -1,5 +1,7 @@
 -- Restatements and reductions: the place of the investee, and its row written over.
-use Rattle.std.proofs.Common.{◌≡◌, ℕ, ◌<◌, true, List, length, get_or, set, is_some, Some, None, Ok, Err, ok_or, Option, position, sym, refl, ap, ◌∙◌, arith}
+use Rattle.std.proofs.Common.{◌≡◌, ℕ, ◌<◌, true, ltb, List, length, get_or, set, is_some, Some, None, Ok, Err, ok_or, Option, position, sym, refl, ap, ◌∙◌, arith}
+use Rattle.std.specs.Bool.{if◌then◌else◌}
+use Rattle.std.proofs.lemmas.Bool.{cond-true, lt-ltb}
 use Rattle.faults.specs.Refusals.{fault}
 use Rattle.faults.specs.declared.Fault.{Fault}
 use Rattle.faults.specs.declared.Refusal.TheVariants.{NotOpen}
@@ -11,7 +13,7 @@ use Rattle.plain.specs.Refused.{if_open}
 use Rattle.plain.specs.Steps.{Meaning}
 use Rattle.book.specs.declared.rows.InvesteeRow.{InvesteeRow}
 use Rattle.book.specs.Rows.{plain_investee, plain_investees}
-use Rattle.positions.proofs.Places.{first-nowhere, found_alike, row_within, written-view, change-at-place}
+use Rattle.positions.proofs.Places.{first-nowhere, found_alike, row_within, written-at, change-at-place}
 
 -- ---- the place
 
@@ -45,9 +47,11 @@ module _ (xs : List InvesteeRow) (id k : ℕ) (at : Ok k ≡ ok_or (position (ha
   pub open-within : k < length xs
   open-within = row_within plain_investee (has_id id) xs k (open-some (position (has_id id) (plain_investees xs)) k at)
 
-  pub reread : (change : Reading → PlainInvestee → PlainInvestee) (m : Meaning) (r : Reading) (old new : InvesteeRow) → m ≡ Ok r → old ≡ get_or xs k old → plain_investee new ≡ change r (plain_investee old)
-      → plain_investees (set xs k new) ≡ change_first (has_id id) (read_into change m) (plain_investees xs)
-  reread change m r old new read is e =
-      written-view plain_investee (change r) xs k old new open-within is e
-      ∙ change-at-place (has_id id) (change r) (plain_investees xs) k (open-some (position (has_id id) (plain_investees xs)) k at) (plain_investee old)
+  -- the old row was read in the same rows, with any default
+  pub reread : (change : Reading → PlainInvestee → PlainInvestee) (m : Meaning) (r : Reading) (rows : List InvesteeRow) (d new : InvesteeRow) → m ≡ Ok r → rows ≡ xs → plain_investee new ≡ change r (plain_investee (get_or rows k d))
+      → plain_investees (if ltb k (length xs) then set xs k new else xs) ≡ change_first (has_id id) (read_into change m) (plain_investees xs)
+  reread change m r rows d new read same e =
+      ap plain_investees (cond-true (ltb k (length xs)) (set xs k new) xs (lt-ltb k (length xs) open-within))
+      ∙ written-at plain_investee (change r) xs rows k d new same open-within e
+      ∙ change-at-place (has_id id) (change r) (plain_investees xs) k (open-some (position (has_id id) (plain_investees xs)) k at) (plain_investee (get_or rows k d))
       ∙ ap (λ n. change_first (has_id id) (read_into change n) (plain_investees xs)) (sym read)

@@ -1,5 +1,5 @@
 -- Which plain book a book stands for.
-use Rattle.std.specs.Prelude.{vec_items}
+use Rattle.fixed_tables.specs.Tables.{rows_in}
 use Rattle.plain.specs.PlainBook.{PlainBook}
 use Rattle.rules.specs.declared.rule.Rule.{Ghosts}
 use Rattle.book.specs.declared.book.Book.{Book}
@@ -7,4 +7,4 @@ use Rattle.book.specs.Rows.{plain_rows}
 
 -- under any rule
 abbrev pub plain : {R : Type 0} {rule : Ghosts R} → Book R rule → PlainBook
-plain b = plain_rows (vec_items b.investees) b.positions
+plain b = plain_rows (rows_in b.investees) b.positions

@@ -1,10 +1,12 @@
 // The book as it is kept.
 ghost use Rattle.std.specs.Prelude.{◌≤◌, vec_len, vec_capacity};
+ghost use Rattle.fixed_tables.specs.Tables.{rows_in};
 ghost use Rattle.plain.specs.Kept.{KeptByEveryRun};
-ghost use Rattle.plain.specs.Limits.{most_investees};
 ghost use Rattle.book.specs.Rows.{plain_rows};
 
 use crate::rows::InvesteeRow;
+use fixed_tables::Table;
+use plain::limits::MOST_INVESTEES;
 use positions::Positions;
 use rules::rule::Rule;
 
@@ -20,8 +22,7 @@ mod running;
 #[derive(Drop)]
 pub struct Book<'r, R: Rule> {
     rule: &'r R,
-    investees: Vec<InvesteeRow>,
+    investees: Table<InvesteeRow, MOST_INVESTEES>,
     positions: Positions,
-    ghost room: { (vec_len investees ≤ most_investees) × (most_investees ≤ vec_capacity investees) },
-    ghost kept: { ∥ KeptByEveryRun (plain_rows investees.items positions) ∥₁ },
+    ghost kept: { ∥ KeptByEveryRun (plain_rows (rows_in investees) positions) ∥₁ },
 }

@@ -19,6 +19,7 @@ impl<'r, R: Rule> Book<'r, R> {
         ensures { result ≡ ok_or (position (has_id id) (plain self.now).investees) (fault NotOpen 0 0) }
     {
         self.investees
+            .as_slice()
             .iter()
             .position(|row| row.has_id(id))
             .ok_or(Fault::plain(Refusal::NotOpen))
@@ -29,6 +30,7 @@ impl<'r, R: Rule> Book<'r, R> {
         ensures { plain_result result ≡ ok_or (investee_of id (plain self.now)) (fault NotOpen 0 0) }
     {
         self.investees
+            .as_slice()
             .iter()
             .find(|row| row.has_id(id))
             .copied()
@@ -39,7 +41,7 @@ impl<'r, R: Rule> Book<'r, R> {
     pub(super) fn is_open(&self, id: u64) -> bool
         ensures { result ≡ is_open id (plain self.now) }
     {
-        self.investees.iter().any(|row| row.has_id(id))
+        self.investees.as_slice().iter().any(|row| row.has_id(id))
     }
 
     // The exposure to an investee.

@@ -10,7 +10,6 @@ ghost use Rattle.book.specs.View.{plain};
 use crate::book::Book;
 use crate::rows::InvesteeRow;
 use faults::{Fault, Refusal};
-use plain::limits::full_of_investees;
 use rules::investees::{InvesteeFields, Profile};
 use rules::rule::Rule;
 use sources::reading::Reading;
@@ -32,7 +31,7 @@ impl<'r, R: Rule> Book<'r, R> {
     fn is_full(&self) -> bool
         ensures { result ≡ nat_le most_investees (length (plain self.now).investees) }
     {
-        full_of_investees(self.investees.len())
+        self.investees.is_full()
     }
 
     // The investee that the fields describe, if the book and its rule take it.
@@ -60,8 +59,7 @@ impl<'r, R: Rule> Book<'r, R> {
     {
         let profile = self.taken(fields)?;
         let reading = emissions(source)?;
-        self.investees
-            .push_reserved(InvesteeRow::opened(profile, reading));
+        let _ = self.investees.push(InvesteeRow::opened(profile, reading));
         Ok(())
     }
 }

@@ -20,8 +20,8 @@ impl<'r, R: Rule> Book<'r, R> {
     {
         let at = self.place(id)?;
         let reading = emissions(source)?;
-        let row = self.investees[at];
-        self.investees[at] = row.restated(reading);
+        let row = self.investees.as_slice()[at];
+        self.investees.set(at, row.restated(reading));
         Ok(())
     }
 
@@ -33,8 +33,8 @@ impl<'r, R: Rule> Book<'r, R> {
     {
         let at = self.place(id)?;
         let reading = source.read()?;
-        let row = self.investees[at];
-        self.investees[at] = row.reduced_by(reading);
+        let row = self.investees.as_slice()[at];
+        self.investees.set(at, row.reduced_by(reading));
         Ok(())
     }
 }

@@ -56,7 +56,7 @@ impl<'r, R: Rule> Book<'r, R> {
     {
         let mut accounts = filled(None);
         // By index: of what is written through an adapter of `iter_mut` a proof knows nothing.
-        for (k, &row) in self.investees.iter().enumerate() {
+        for (k, &row) in self.investees.as_slice().iter().enumerate() {
             accounts[k] = Some(Held { book: self, row }.account());
         }
         accounts

@@ -46,7 +46,7 @@ impl<'r, R: Rule> Book<'r, R> {
         ensures { result ≡ sheet_of (R.tables self.now.rule.now) (plain self.now) branch }
     {
         let mut sum = NO_KILOGRAMS;
-        for &row in &self.investees {
+        for &row in self.investees.as_slice() {
             let part = Held { book: self, row }.part(branch);
             sum = added(sum, part);
         }
@@ -69,7 +69,7 @@ impl<'r, R: Rule> Book<'r, R> {
         ensures sheets { (n : ℕ) → n < branch_count → slice_index_or result n no_kilograms ≡ sheet_of (R.tables self.now.rule.now) (plain self.now) (n + 1) }
     {
         let mut sums = filled(NO_KILOGRAMS);
-        for &row in &self.investees {
+        for &row in self.investees.as_slice() {
             Held { book: self, row }.add_parts(&mut sums);
         }
         sums

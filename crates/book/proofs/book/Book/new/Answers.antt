@@ -1,4 +1,3 @@
-use Rattle.std.proofs.Common.{arith}
 use Rattle.plain.specs.PlainBook.{empty}
 use Rattle.plain.proofs.Kept.{kept-at-first}
 use Rattle.book.specs.Rows.{plain_investees}
@@ -7,8 +6,4 @@ use Rattle.book.proofs.book.Book.new.Goals as goal
 
 pub invariant_of-result : goal.invariant_of-result
 invariant_of-result g c =
-    let v = c.in_ok-investees.ensures in
-    record {
-      room = (omega (arith, v.1), omega (arith, v.2));
-      kept = kept-as empty _ kept-at-first (λ i. record { investees = plain_investees (v.0 i); positions = c.in_ok-positions.ensures i });
-    }
+    record { kept = kept-as empty _ kept-at-first (λ i. record { investees = plain_investees (c.in_ok-investees.ensures i); positions = c.in_ok-positions.ensures i }) }

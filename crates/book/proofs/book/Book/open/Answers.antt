@@ -1,5 +1,8 @@
-use Rattle.std.proofs.Common.{◌≡◌, vec_items, sym, refl, arith}
+use Rattle.std.proofs.Common.{◌≡◌, ◌<◌, leb, [], ◌∷◌, ◌++◌, length, sym, refl, ◌∙◌, arith}
+use Rattle.std.proofs.lemmas.Bool.{cond-false, lt-leb}
 use Rattle.std.proofs.lemmas.List.{length-map}
+use Rattle.fixed_tables.specs.Tables.{rows_in}
+use Rattle.plain.specs.Limits.{most_investees}
 use Rattle.plain.specs.Runs.{after}
 use Rattle.plain.specs.Steps.{enter}
 use Rattle.book.specs.Rows.{plain_investee, plain_rows}
@@ -9,29 +12,25 @@ use Rattle.book.proofs.Outcomes.{answer-accepted, failed}
 use Rattle.book.proofs.Openings.{Entered, entered, not_taken, not-read, opened_rows}
 use Rattle.book.proofs.book.Book.open.Given as given
 use Rattle.book.proofs.book.Book.open.Goals as goal
-use Rattle.book.proofs.book.Book.open.Goals.{After-opened, After-push_reserved}
+use Rattle.book.proofs.book.Book.open.Goals.{After-opened, After-push}
 
 accepted : (g : given.Over) (c : After-opened g) → Entered (g.R.Rule.tables c.args.self.now.rule.now) (plain c.args.self.now) c.args.fields (g.S.Source.meaning c.args.source.now) c.in_ok-profile.profile c.in_ok-reading.reading
 accepted g c = entered _ _ _ _ _ _ c.in_ok-profile.ensures c.in_ok-reading.ensures
 
-pub push_reserved-requires : goal.push_reserved-requires
-push_reserved-requires g c =
-    let book = c.args.self.now in
-    omega (arith, (accepted g c).room, length-map (vec_items book.investees) plain_investee, book.investees.ok.0, book.room.1)
-
 -- the book is that after the call
-is-after : (g : given.Over) (c : After-push_reserved g) → plain_rows (vec_items c.push_reserved.new.self) c.args.self.now.positions ≡ after (g.R.Rule.tables c.args.self.now.rule.now) (plain c.args.self.now) (enter c.args.fields (g.S.Source.meaning c.args.source.now))
+is-after : (g : given.Over) (c : After-push g) → plain_rows (rows_in c.push.new.self) c.args.self.now.positions ≡ after (g.R.Rule.tables c.args.self.now.rule.now) (plain c.args.self.now) (enter c.args.fields (g.S.Source.meaning c.args.source.now))
 is-after g c =
     let a = accepted g (goal.at.invariant_of-self g c).After-opened in
     let book = c.args.self.now in
-    opened_rows (g.R.Rule.tables book.rule.now) (vec_items book.investees) (vec_items c.push_reserved.new.self) book.positions c.args.fields (g.S.Source.meaning c.args.source.now) c.in_ok-profile.profile c.in_ok-reading.reading c.opened.result a c.push_reserved.ensures.items c.opened.ensures
+    let rows = rows_in book.investees in
+    let room : length rows < most_investees = omega (arith, a.room, length-map rows plain_investee) in
+    let added = c.push.ensures.rows ∙ cond-false (leb most_investees (length rows)) rows (rows ++ c.opened.result ∷ []) (lt-leb most_investees (length rows) room) in
+    opened_rows (g.R.Rule.tables book.rule.now) (rows_in book.investees) (rows_in c.push.new.self) book.positions c.args.fields (g.S.Source.meaning c.args.source.now) c.in_ok-profile.profile c.in_ok-reading.reading c.opened.result a added c.opened.ensures
 
 pub invariant_of-self : goal.invariant_of-self
 invariant_of-self g c =
     let book = c.args.self.now in
-    let a = accepted g (goal.at.invariant_of-self g c).After-opened in
     record {
-      room = (omega (arith, c.push_reserved.ensures.len, a.room, length-map (vec_items book.investees) plain_investee, book.investees.ok.0), omega (arith, c.push_reserved.ensures.capacity, book.room.1));
       kept = kept-after (g.R.Rule.tables book.rule.now) (plain book) _ (enter c.args.fields (g.S.Source.meaning c.args.source.now)) (g.S.Source.within c.args.source.now) book.kept (is-after g c);
     }
 
@@ -40,7 +39,7 @@ returns g c =
     let book = c.args.self.now in
     let a = accepted g (goal.at.returns g c).After-opened in
     record {
-      book = is-after g (goal.at.returns g c).After-push_reserved;
+      book = is-after g (goal.at.returns g c).After-push;
       rule = refl {a = c.args.self.now.rule};
       told = sym (answer-accepted (g.R.Rule.tables book.rule.now) (plain book) (enter c.args.fields (g.S.Source.meaning c.args.source.now)) a.accepted);
     }

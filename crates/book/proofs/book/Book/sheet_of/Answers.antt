@@ -1,5 +1,6 @@
-use Rattle.std.proofs.Common.{vec_items, ap, ◌∙◌, arith, take_all}
+use Rattle.std.proofs.Common.{ap, ◌∙◌, arith, take_all}
 use Rattle.std.proofs.ByRecursion.{All-get_or}
+use Rattle.fixed_tables.specs.Tables.{rows_in}
 use Rattle.plain.specs.Limits.{most_investees}
 use Rattle.positions.specs.View.{positions_in}
 use Rattle.book.specs.Rows.{plain_investee}
@@ -16,17 +17,17 @@ loop-row-init g c = summed-none _
 pub invariant_of-part : goal.invariant_of-part
 invariant_of-part g c =
     let book = c.args.self.now in
-    let read = c.deref-row-items.result.now in
-    let all = rows-within (vec_items book.investees) book.positions book.kept read c.deref-row-items.ensures.value in
+    let read = c.as_slice-row-items.result.now in
+    let all = rows-within (rows_in book.investees) book.positions book.kept read c.as_slice-row-items.ensures.rows in
     record { within = ∣ All-get_or (λ row. WithinBook (positions_in book.positions) (plain_investee row)) read c.loop-row.row-index _ c.loop-row-test.true all ∣₁ }
 
 pub added-sum-requires : goal.added-sum-requires
 added-sum-requires g c =
     let book = c.args.self.now in
     let t = g.R.Rule.tables book.rule.now in
-    let read = c.deref-row-items.result.now in
-    let all = rows-within (vec_items book.investees) book.positions book.kept read c.deref-row-items.ensures.value in (
-      parts-sofar-within t (plain book) c.args.branch read all c.loop-row.row-index c.loop-row-test.true most_investees c.loop-row.sum (omega (arith, c.deref-row-items.ensures.len, book.room.0)) c.loop-row.invariant,
+    let read = c.as_slice-row-items.result.now in
+    let all = rows-within (rows_in book.investees) book.positions book.kept read c.as_slice-row-items.ensures.rows in (
+      parts-sofar-within t (plain book) c.args.branch read all c.loop-row.row-index c.loop-row-test.true most_investees c.loop-row.sum (omega (arith, c.as_slice-row-items.ensures.few)) c.loop-row.invariant,
       next-part-within t (plain book) c.args.branch read all c.loop-row.row-index c.loop-row-test.true _ c.part-part.result c.part-part.ensures,
     )
 
@@ -34,7 +35,7 @@ pub loop-row-preserved : goal.loop-row-preserved
 loop-row-preserved g c =
     let book = c.args.self.now in
     c.added-sum.ensures
-    ∙ summed-more (row_part (g.R.Rule.tables book.rule.now) (plain book) c.args.branch) c.deref-row-items.result.now c.loop-row.row-index _ c.loop-row-test.true
+    ∙ summed-more (row_part (g.R.Rule.tables book.rule.now) (plain book) c.args.branch) c.as_slice-row-items.result.now c.loop-row.row-index _ c.loop-row-test.true
     c.loop-row.sum c.part-part.result c.loop-row.invariant c.part-part.ensures
 
 pub returns : goal.returns
@@ -42,5 +43,5 @@ returns g c =
     let book = c.args.self.now in
     let t = g.R.Rule.tables book.rule.now in
     c.loop-row.invariant
-    ∙ ap (summed (row_part t (plain book) c.args.branch)) (take_all c.loop-row.row-index c.deref-row-items.result.now c.loop-row-test.false ∙ c.deref-row-items.ensures.value)
-    ∙ sheet-rows t (vec_items book.investees) book.positions c.args.branch
+    ∙ ap (summed (row_part t (plain book) c.args.branch)) (take_all c.loop-row.row-index c.as_slice-row-items.result.now c.loop-row-test.false ∙ c.as_slice-row-items.ensures.rows)
+    ∙ sheet-rows t (rows_in book.investees) book.positions c.args.branch

@@ -1,5 +1,6 @@
 // The book total.
-ghost use Rattle.std.specs.Prelude.{◌≡◌, map, take, vec_len};
+ghost use Rattle.std.specs.Prelude.{◌≡◌, map, length, take};
+ghost use Rattle.fixed_tables.specs.Tables.{rows_in};
 ghost use Rattle.plain.specs.declared.answers.Answer.TheVariants.{Book as BookAnswer};
 ghost use Rattle.plain.specs.Runs.{answer};
 ghost use Rattle.plain.specs.Steps.{ask_book_total};
@@ -36,11 +37,11 @@ impl<'b, 'r, R: Rule> Held<'b, 'r, R> {
 impl<'r, R: Rule> Book<'r, R> {
     // The lines of all investees, in the order of their openings. The rest of the table stays empty.
     fn lines(&self) -> [Line; MOST_INVESTEES]
-        ensures { take (vec_len self.now.investees) result ≡ map (line_of (R.tables self.now.rule.now) (plain self.now)) (plain self.now).investees }
+        ensures { take (length (rows_in self.now.investees)) result ≡ map (line_of (R.tables self.now.rule.now) (plain self.now)) (plain self.now).investees }
     {
         let mut lines = filled(NO_LINE);
         // By index: of what is written through an adapter of `iter_mut` a proof knows nothing.
-        for (k, &row) in self.investees.iter().enumerate() {
+        for (k, &row) in self.investees.as_slice().iter().enumerate() {
             lines[k] = Held { book: self, row }.line();
         }
         lines
