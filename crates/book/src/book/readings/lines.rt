@@ -15,6 +15,7 @@ use rules::kinds::Kind;
 mod totals;
 
 // One investee: what falls to all branches, and how many positions there are on it, with what tells whether it is counted.
+// Each flag is counted by itself: no value of a line is missing where one of them is false.
 #[derive(Clone, Copy)]
 struct Line {
     project: bool,
