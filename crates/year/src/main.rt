@@ -57,7 +57,23 @@ fn post(branch: u64, id: u64, month: u64, balance: u64) -> Call<Reads> {
     }
 }
 
-// A call, and what to call it.
+fn amend(branch: u64, id: u64, month: u64, balance: u64) -> Call<Reads> {
+    Call::Amend {
+        branch,
+        id,
+        month,
+        balance,
+    }
+}
+
+fn restate(id: u64, kilograms: u64) -> Call<Reads> {
+    Call::Restate {
+        id,
+        source: reported(kilograms),
+    }
+}
+
+// A call with its label.
 #[derive(Drop)]
 struct Step {
     label: &'static str,
@@ -147,13 +163,7 @@ fn readings(rt: &HostRuntime, book: &mut Book<'_, National>) -> io::Result<()> {
 
 fn changes(rt: &HostRuntime, book: &mut Book<'_, National>) -> io::Result<()> {
     let steps = vec![in rt.alloc();
-        named(
-            "restate 8 to 3000 kg",
-            Call::Restate {
-                id: 8,
-                source: reported(3_000),
-            },
-        ),
+        named("restate 8 to 3000 kg", restate(8, 3_000)),
         named(
             "reduce 7 by an estimate of 200 kg more than before",
             Call::Reduce {
@@ -163,29 +173,10 @@ fn changes(rt: &HostRuntime, book: &mut Book<'_, National>) -> io::Result<()> {
         ),
         named(
             "branch 3 amends month 12 on 7 to 10000",
-            Call::Amend {
-                branch: 3,
-                id: 7,
-                month: 12,
-                balance: 10_000,
-            },
+            amend(3, 7, 12, 10_000),
         ),
-        named(
-            "branch 3 amends month 11 on 7",
-            Call::Amend {
-                branch: 3,
-                id: 7,
-                month: 11,
-                balance: 1,
-            },
-        ),
-        named(
-            "restate 5",
-            Call::Restate {
-                id: 5,
-                source: reported(1),
-            },
-        ),
+        named("branch 3 amends month 11 on 7", amend(3, 7, 11, 1)),
+        named("restate 5", restate(5, 1)),
     ]?;
     show(rt, book, steps)
 }
