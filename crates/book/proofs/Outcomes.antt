@@ -10,7 +10,7 @@ use Rattle.plain.specs.Readings.{gives}
 use Rattle.plain.specs.Refused.{declined}
 use Rattle.plain.specs.Runs.{unless, after, answer}
 use Rattle.plain.specs.Steps.{Step}
-use Rattle.book.specs.Told.{told, done}
+use Rattle.plain.specs.Told.{told, done}
 
 module _ (t : Tables) (p : PlainBook) (c : Step) where
   pub after-declined : (f : Fault) → declined t p c ≡ Some f → after t p c ≡ p

@@ -1,6 +1,5 @@
 pub mod Rows
 pub mod View
-pub mod Told
 pub mod Calls
 pub mod Openings
 pub mod Entries

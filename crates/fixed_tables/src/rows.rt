@@ -1,5 +1,7 @@
 // Making a table, reading its rows and writing them.
-ghost use Rattle.std.specs.Prelude.{◌≡◌, ◌≤◌, [], ◌∷◌, ◌++◌, length, IfOk, if◌then◌else◌, Some, None, nat_le, nat_lt, slice_set};
+ghost use Rattle.std.specs.Prelude.{◌≡◌, ◌≤◌, [], ◌∷◌, ◌++◌, length, IfOk, if◌then◌else◌, Ok, Err, nat_le, slice_index_or, IsSome, IfSome, ◌↔◌, ◌<◌};
+ghost use Rattle.std.specs.Borrow.{sem};
+ghost use Rattle.fixed_tables.specs.Lending.{LendsRow};
 ghost use Rattle.fixed_tables.specs.Tables.{rows_in};
 
 use crate::Table;
@@ -37,23 +39,23 @@ impl<T: Drop, const MOST: usize> Table<T, MOST> {
     }
 
     // Adds a row at the end, and gives it back where the table is full.
-    pub fn push(&mut self, row: T) -> Option<T>
+    pub fn push(&mut self, row: T) -> Result<(), T>
         ensures rows { rows_in self.new ≡ (if nat_le MOST (length (rows_in self.old)) then rows_in self.old else rows_in self.old ++ row ∷ []) }
-        ensures back { result ≡ (if nat_le MOST (length (rows_in self.old)) then Some row else None) }
+        ensures told { result ≡ (if nat_le MOST (length (rows_in self.old)) then Err row else Ok tt) }
     {
         if self.is_full() {
-            return Some(row);
+            return Err(row);
         }
         self.rows.push_reserved(row);
-        None
+        Ok(())
     }
 
-    // Writes another row over the one at a place; without one there, it changes nothing.
-    pub fn set(&mut self, at: usize, row: T)
-        ensures { rows_in self.new ≡ (if nat_lt at (length (rows_in self.old)) then slice_set (rows_in self.old) at row else rows_in self.old) }
+    // The row at a place, to change it; nothing without one there.
+    pub fn get_mut(&mut self, at: usize) -> Option<&mut T>
+        ensures* writes_back { sem 𝓛 (LendsRow T.row MOST.row self.entry at result) }
+        ensures there { IsSome result ↔ (at < length (rows_in self.old)) }
+        ensures row { IfSome result (λ row. row.now ≡ slice_index_or (rows_in self.old) at row.now) }
     {
-        if at < self.len() {
-            self.rows[at] = row;
-        }
+        self.rows.get_mut(at)
     }
 }

@@ -12,7 +12,7 @@ use Rattle.plain.specs.Runs.{after, answer, unless}
 use Rattle.plain.specs.Steps.{Step}
 use Rattle.plain.specs.declared.answers.Answer.{Answer}
 use Rattle.plain.specs.declared.answers.Answer.TheVariants.{Done, Declined}
-use Rattle.book.specs.Told.{told, done}
+use Rattle.plain.specs.Told.{told, done}
 use Rattle.loading.specs.Trying.{outcome, tried}
 
 -- ---- what a call that changes the book tells its caller

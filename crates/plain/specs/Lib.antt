@@ -20,4 +20,5 @@ pub mod Worked
 pub mod WorkedRefusals
 pub mod Due
 pub mod WorkedYear
+pub mod Told
 pub mod Layout

@@ -1,13 +1,14 @@
 // What a book answers to its calls, and how it is printed.
-ghost use Rattle.std.specs.Prelude.{Some};
+ghost use Rattle.std.specs.Prelude.{◌≡◌, Some};
 ghost use Rattle.plain.specs.Layout.{kilograms_text, total_text, subtotal_text, book_total_text, answer_text};
+ghost use Rattle.plain.specs.Told.{told, done};
 
 use faults::Fault;
 use grading::hundredths::Hundredths;
 use std::fmt;
 
 // Kilograms of CO2 equivalent of both measures. Reductions may be below zero.
-#[derive(Clone, Copy, Debug, PartialEq, Eq)]
+#[derive(Clone, Copy, Debug, Default, PartialEq, Eq)]
 pub struct Kilograms {
     pub emissions: i64,
     pub reductions: i64,
@@ -55,6 +56,18 @@ pub enum Answer {
     Total(InvesteeTotal),
     Sheet(Kilograms),
     Book(BookTotal),
+}
+
+// What a call that changes the book answers.
+impl From<Result<(), Fault>> for Answer {
+    ghost from_gives = { λ outcome answer. answer ≡ told done outcome };
+
+    fn from(outcome: Result<(), Fault>) -> Answer {
+        match outcome {
+            Ok(()) => Answer::Done,
+            Err(fault) => Answer::Declined(fault),
+        }
+    }
 }
 
 impl fmt::Display for Kilograms {

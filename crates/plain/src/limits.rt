@@ -8,6 +8,9 @@ use rules::MONTHS;
 // Branches are numbered from 1.
 pub const BRANCHES: u64 = 40;
 
+// How many rows a table has that gives one to each branch, from branch 1 on.
+pub const BRANCH_ROWS: usize = BRANCHES as usize;
+
 pub const MOST_INVESTEES: usize = 200;
 
 // A position is one branch on one investee.

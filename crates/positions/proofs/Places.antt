@@ -1,7 +1,8 @@
 -- Finding a row and changing it, by its place.
-use Rattle.std.proofs.Common.{◌≡◌, ℕ, zero, suc, ◌<◌, ◌≤◌, Bool, true, false, cond, ltb, List, [], ◌∷◌, map, length, get_or, set, is_some, Some, None, sym, refl, ap, ◌∙◌, ⊎_elim, arith}
+use Rattle.std.proofs.Common.{◌≡◌, ℕ, zero, suc, ◌<◌, ◌≤◌, Bool, true, false, cond, ltb, List, [], ◌∷◌, ◌++◌, map, length, get_or, set, is_some, Some, None, Option, OnSome, IsSome, ◌↔◌, is_ok, Ok, Err, Result, sym, refl, ap, ◌∙◌, ⊎_elim, arith}
 use Rattle.std.specs.List.{AllByRecursion}
-use Rattle.std.proofs.lemmas.List.{length-map, get_or-map, get_or_default, map-set}
+use Rattle.std.proofs.lemmas.List.{length-map, get_or-map, get_or_default, map-set, map_push}
+use Rattle.std.proofs.lemmas.Option.{none-some}
 use Rattle.std.proofs.lemmas.Bool.{lt-ltb, le-ltb, cond-true, cond-false, cases_lt}
 use Rattle.plain.specs.Lists.{first_of, change_first}
 use Rattle.plain.proofs.Lists.{place_of, first-at, first_past, change-at}
@@ -117,3 +118,25 @@ written-view view change xs k old new h is e =
 pub written-at : {X Y : Type 0} (view : X → Y) (change : Y → Y) (xs read : List X) (k : ℕ) (d new : X) → read ≡ xs → k < length xs → view new ≡ change (view (get_or read k d)) → map view (set xs k new) ≡ change_at k change (map view xs)
 written-at view change xs read k d new same h e =
     written-view view change xs k (get_or read k d) new h (get_or_default read k d (get_or read k d) (omega (arith, h, ap length same)) ∙ ap (λ l. get_or l k (get_or read k d)) same) e
+
+-- a row is added where a table is not full: so is its view
+pub added-view : {X Y E : Type 0} (view : X → Y) (full : Bool) (xs new : List X) (x : X) (e : E) (r : Result (Unit {0}) E) → new ≡ cond full xs (xs ++ x ∷ []) → r ≡ cond full (Err e) (Ok tt) → map view new ≡ cond (is_ok r) (map view xs ++ view x ∷ []) (map view xs)
+added-view view true xs new x e r is told = ap (map view) is ∙ sym (ap (λ s. cond (is_ok s) (map view xs ++ view x ∷ []) (map view xs)) told)
+added-view view false xs new x e r is told =
+    ap (map view) is
+    ∙ map_push view xs x
+    ∙ sym (ap (λ s. cond (is_ok s) (map view xs ++ view x ∷ []) (map view xs)) told)
+
+-- what a table lends: what holds where a row is lent, and that the place is past the end where none is
+pub lent-row : {X : Type 0} {P : Type 0} (o : Option X) (x : X) → o ≡ Some x → OnSome o P → P
+lent-row None x is p = absurd (none-some x is)
+lent-row (Some y) x is p = p
+
+pub lent-none : {X : Type 0} (o : Option X) (k n : ℕ) → o ≡ None → (IsSome o ↔ (k < n)) → n ≤ k
+lent-none None k n is there =
+    ⊎_elim
+    (λ h. let z : ◌≡◌ {A = ℕ} 0 1 = ap (λ b. cond b 1 0) (there.1 h) in
+    absurd (omega arith))
+    (λ h. h)
+    (cases_lt k n)
+lent-none (Some y) k n is there = absurd (none-some y (sym is))

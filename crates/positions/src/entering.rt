@@ -1,5 +1,5 @@
 // Finding positions, and entering their balances.
-ghost use Rattle.std.specs.Prelude.{◌≡◌, ◌<◌, [], ◌∷◌, ◌++◌, length, IfOk, if◌then◌else◌, None};
+ghost use Rattle.std.specs.Prelude.{◌≡◌, [], ◌∷◌, ◌++◌, length, IfOk, is_ok, if◌then◌else◌, None, not, nat_le};
 ghost use Rattle.plain.specs.Changes.{amended, posted};
 ghost use Rattle.plain.specs.Limits.{most_positions};
 ghost use Rattle.plain.specs.PlainBook.{is_of, position_of, new_position};
@@ -11,6 +11,7 @@ ghost use Rattle.positions.specs.Years.{in_year};
 
 use crate::{PositionRow, Positions, in_year};
 use fixed_tables::Table;
+use plain::limits::full_of_positions;
 use std::alloc::{AllocError, Global};
 
 impl Positions {
@@ -51,31 +52,30 @@ impl Positions {
     pub fn no_room_for(&self, branch: u64, id: u64) -> bool
         ensures { result ≡ no_room_for branch id (positions_in self.now) }
     {
-        self.rows.is_full() && self.place(branch, id).is_none()
+        full_of_positions(self.len()) && self.place(branch, id).is_none()
     }
 
-    // Adds a position with its first balance at the end.
-    fn add(&mut self, branch: u8, id: u32, month: u64, balance: u32)
-        requires { length (positions_in self.old) < most_positions }
-        ensures { positions_in self.new ≡ positions_in self.old ++ written month balance (new_position branch id) ∷ [] }
+    // Adds a position with its first balance at the end, and gives it back where there is no room.
+    fn add(&mut self, branch: u8, id: u32, month: u64, balance: u32) -> Result<(), PositionRow>
+        ensures added { positions_in self.new ≡ (if is_ok result then positions_in self.old ++ written month balance (new_position branch id) ∷ [] else positions_in self.old) }
+        ensures room { is_ok result ≡ not (nat_le most_positions (length (positions_in self.old))) }
     {
         let mut row = PositionRow::new(branch, id);
         row.write(month, balance);
-        let _ = self.rows.push(row);
+        self.rows.push(row)
     }
 
     // Writes the balance of one month of the position at a place, and touches no other.
     fn write(&mut self, at: usize, month: u64, balance: u32)
         ensures { positions_in self.new ≡ change_at at (written month balance) (positions_in self.old) }
     {
-        if at < self.rows.len() {
-            let mut row = self.rows.as_slice()[at];
+        if let Some(row) = self.rows.get_mut(at) {
             row.write(month, balance);
-            self.rows.set(at, row);
         }
     }
 
-    // Enters the balance of a month, at a new position if there is none, and says whether it could.
+    // Enters the balance of a month, at a new position if there is none, and says whether it could: nothing else is to say
+    // where it could not.
     pub fn enter(&mut self, branch: u8, id: u32, month: u64, balance: u32) -> bool
         ensures entered { result ≡ can_enter branch id month (positions_in self.old) }
         ensures positions { positions_in self.new ≡ (if result then posted branch id month balance (positions_in self.old) else positions_in self.old) }
@@ -83,11 +83,10 @@ impl Positions {
         if !in_year(month) {
             return false;
         }
-        match self.place(u64::from(branch), u64::from(id)) {
-            Some(at) => self.write(at, month, balance),
-            None if self.rows.is_full() => return false,
-            None => self.add(branch, id, month, balance),
-        }
+        let Some(at) = self.place(u64::from(branch), u64::from(id)) else {
+            return self.add(branch, id, month, balance).is_ok();
+        };
+        self.write(at, month, balance);
         true
     }
 

@@ -7,11 +7,11 @@ ghost use Rattle.positions.specs.Lending.{lending_of, turn_of, turns_of, noted, 
 ghost use Rattle.positions.specs.View.{positions_in};
 
 use crate::Positions;
-use plain::limits::{BRANCHES, branch_out_of_range};
-use rules::kinds::Kind;
+use plain::limits::{BRANCH_ROWS, branch_out_of_range};
+use rules::investees::Profile;
 
 // What all branches have lent to an investee: their positions, their exposures and their closing balances, added up.
-#[derive(Clone, Copy)]
+#[derive(Clone, Copy, Default)]
 pub struct Lending {
     pub positions: u64,
     pub exposure: u64,
@@ -25,9 +25,6 @@ pub struct Turn {
     pub exposure: u64,
 }
 
-// A turn for each branch.
-pub const TURNS: usize = BRANCHES as usize;
-
 // Writes the turn of a branch at its place, unless there is one.
 fn note(turns: &mut [Option<Turn>], branch: u8, turn: Turn)
     requires { length turns.old ≡ branch_count }
@@ -40,42 +37,50 @@ fn note(turns: &mut [Option<Turn>], branch: u8, turn: Turn)
 }
 
 impl Positions {
-    // The exposures to the investee of an id, whose kind is this, added up.
-    pub fn exposure(&self, kind: Kind, id: u32) -> u64
-        ensures { result ≡ exposures (map (lent_by kind) (positions_on id (positions_in self.now))) }
+    // The exposures to an investee, added up.
+    pub fn exposure(&self, investee: Profile) -> u64
+        ensures { result ≡ exposures (map (lent_by investee.kind) (positions_on investee.id (positions_in self.now))) }
     {
         self.rows
             .as_slice()
             .iter()
-            .filter(|row| row.is_on(id))
-            .map(|row| row.exposure(kind))
+            .filter(|row| row.is_on(investee.id))
+            .map(|row| row.exposure(investee.kind))
             .sum()
     }
 
-    // What was lent to the investee of an id, whose kind is this.
-    pub fn lending(&self, kind: Kind, id: u32) -> Lending
-        ensures { result ≡ lending_of kind id (positions_in self.now) }
+    // What was lent to an investee.
+    pub fn lending(&self, investee: Profile) -> Lending
+        ensures { result ≡ lending_of investee.kind investee.id (positions_in self.now) }
     {
-        let mut lending = Lending {
-            positions: 0,
-            exposure: 0,
-            closing: 0,
-        };
-        for row in self.rows.as_slice().iter().filter(|row| row.is_on(id)) {
+        let mut lending = Lending::default();
+        // One pass for three sums.
+        for row in self
+            .rows
+            .as_slice()
+            .iter()
+            .filter(|row| row.is_on(investee.id))
+        {
             lending.positions += 1;
-            lending.exposure += row.exposure(kind);
+            lending.exposure += row.exposure(investee.kind);
             lending.closing += row.closing();
         }
         lending
     }
 
-    // The turn of a branch among those that have lent to the investee of an id, whose kind is this.
-    pub fn turn(&self, kind: Kind, id: u32, branch: u64) -> Turn
-        ensures { result ≡ turn_of kind id branch (positions_in self.now) }
+    // The turn of a branch among those that have lent to an investee.
+    pub fn turn(&self, investee: Profile, branch: u64) -> Turn
+        ensures { result ≡ turn_of investee.kind investee.id branch (positions_in self.now) }
     {
         let mut before = 0;
-        for row in self.rows.as_slice().iter().filter(|row| row.is_on(id)) {
-            let exposure = row.exposure(kind);
+        // A `for`: it adds up until it finds the branch, and gives both.
+        for row in self
+            .rows
+            .as_slice()
+            .iter()
+            .filter(|row| row.is_on(investee.id))
+        {
+            let exposure = row.exposure(investee.kind);
             if row.is_of_branch(branch) {
                 return Turn { before, exposure };
             }
@@ -88,13 +93,19 @@ impl Positions {
     }
 
     // The turns of all branches, from branch 1 on, in one walk: None for a branch that has not lent to the investee.
-    pub fn turns(&self, kind: Kind, id: u32) -> [Option<Turn>; TURNS]
-        ensures { result ≡ turns_of kind id (positions_in self.now) }
+    pub fn turns(&self, investee: Profile) -> [Option<Turn>; BRANCH_ROWS]
+        ensures { result ≡ turns_of investee.kind investee.id (positions_in self.now) }
     {
-        let mut turns = [None; TURNS];
+        let mut turns = [None; BRANCH_ROWS];
         let mut before = 0;
-        for row in self.rows.as_slice().iter().filter(|row| row.is_on(id)) {
-            let exposure = row.exposure(kind);
+        // A `for`: each turn needs the sum of the exposures before it.
+        for row in self
+            .rows
+            .as_slice()
+            .iter()
+            .filter(|row| row.is_on(investee.id))
+        {
+            let exposure = row.exposure(investee.kind);
             note(&mut turns, row.branch, Turn { before, exposure });
             before += exposure;
         }

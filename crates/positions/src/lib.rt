@@ -39,7 +39,7 @@ pub struct Positions {
 pub fn is_bond(kind: Kind) -> bool
     ensures { result ≡ is_bond kind }
 {
-    matches!(kind, Kind::Bond)
+    kind == Kind::Bond
 }
 
 // Whether the year has a month of this number.

@@ -4,7 +4,7 @@ ghost use Rattle.plain.specs.Limits.{most_investees};
 ghost use Rattle.plain.specs.Runs.{after, answer};
 ghost use Rattle.plain.specs.Steps.{enter};
 ghost use Rattle.book.specs.Openings.{emissions_in, taken_by};
-ghost use Rattle.book.specs.Told.{told, done};
+ghost use Rattle.plain.specs.Told.{told, done};
 ghost use Rattle.book.specs.View.{plain};
 
 use crate::book::Book;

@@ -7,7 +7,7 @@ ghost use Rattle.plain.specs.Runs.{after, answer};
 ghost use Rattle.plain.specs.Steps.{post, amend};
 ghost use Rattle.book.specs.Entries.{entry_for, plain_result, EntryFor, counted, failing, too_much_at, post_fault, amend_fault};
 ghost use Rattle.book.specs.Rows.{plain_investee};
-ghost use Rattle.book.specs.Told.{told, done};
+ghost use Rattle.plain.specs.Told.{told, done};
 ghost use Rattle.book.specs.View.{plain};
 
 use crate::book::Book;

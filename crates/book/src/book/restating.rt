@@ -2,7 +2,7 @@
 ghost use Rattle.std.specs.Prelude.{◌≡◌};
 ghost use Rattle.plain.specs.Runs.{after, answer};
 ghost use Rattle.plain.specs.Steps.{restate, reduce};
-ghost use Rattle.book.specs.Told.{told, done};
+ghost use Rattle.plain.specs.Told.{told, done};
 ghost use Rattle.book.specs.View.{plain};
 
 use crate::book::Book;

@@ -7,7 +7,7 @@ ghost use Rattle.plain.specs.Runs.{answer};
 ghost use Rattle.plain.specs.Steps.{ask_part, ask_total};
 ghost use Rattle.book.specs.Listed.{listed};
 ghost use Rattle.book.specs.Rows.{plain_investee};
-ghost use Rattle.book.specs.Told.{told};
+ghost use Rattle.plain.specs.Told.{told};
 ghost use Rattle.book.specs.View.{plain};
 
 use crate::book::Book;

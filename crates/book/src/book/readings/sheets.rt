@@ -8,7 +8,7 @@ ghost use Rattle.plain.specs.Steps.{ask_sheet};
 ghost use Rattle.book.specs.Rows.{plain_investee};
 ghost use Rattle.book.specs.Shares.{no_kilograms};
 ghost use Rattle.book.specs.Standings.{RoomForParts, WithParts};
-ghost use Rattle.book.specs.Told.{told};
+ghost use Rattle.plain.specs.Told.{told};
 ghost use Rattle.book.specs.View.{plain};
 
 use crate::book::Book;

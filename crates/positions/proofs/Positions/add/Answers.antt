@@ -1,16 +1,15 @@
-use Rattle.std.proofs.Common.{leb, ◌<◌, [], ◌∷◌, ◌++◌, length, ap, ◌∙◌, arith}
-use Rattle.std.proofs.lemmas.Bool.{cond-false, lt-leb}
-use Rattle.std.proofs.lemmas.List.{length-map, map_push}
+use Rattle.std.proofs.Common.{leb, cond, [], ◌∷◌, ◌++◌, length, is_ok, ap, ◌∙◌}
 use Rattle.fixed_tables.specs.Tables.{rows_in}
 use Rattle.plain.specs.Limits.{most_positions}
 use Rattle.positions.specs.Entries.{written}
-use Rattle.positions.specs.Rows.{plain_position, plain_positions}
+use Rattle.positions.specs.Rows.{plain_position}
+use Rattle.positions.specs.View.{positions_in}
+use Rattle.positions.proofs.Places.{added-view}
 use Rattle.positions.proofs.Positions.add.Goals as goal
 
-pub returns : goal.returns
-returns c =
+pub returns-clause-added : goal.returns-clause-added
+returns-clause-added c =
     let rows = rows_in c.args.self.now.rows in
-    let room : length rows < most_positions = omega (arith, c.requires, length-map rows plain_position) in
-    ap plain_positions (c.push.ensures.rows ∙ cond-false (leb most_positions (length rows)) rows (rows ++ c.write.new.self ∷ []) (lt-leb most_positions (length rows) room))
-    ∙ map_push plain_position rows c.write.new.self
-    ∙ ap (λ q. plain_positions rows ++ q ∷ []) (c.write.ensures ∙ ap (written c.args.month c.args.balance) c.new-row.ensures)
+    let qs = positions_in c.args.self.now in
+    added-view plain_position (leb most_positions (length rows)) rows (rows_in c.push.new.self) c.write.new.self c.write.new.self c.push.result c.push.ensures.rows c.push.ensures.told
+    ∙ ap (λ q. cond (is_ok c.push.result) (qs ++ q ∷ []) qs) (c.write.ensures ∙ ap (written c.args.month c.args.balance) c.new-row.ensures)

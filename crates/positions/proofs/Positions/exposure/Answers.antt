@@ -17,9 +17,9 @@ sum-requires-clause-fits c =
 pub returns : goal.returns
 returns c =
     let rows = rows_in c.args.self.now.rows in
-    sum_by_from_yields_List (λ row. exposure_of c.args.kind (plain_position row)) (rows_on c.args.id rows) _ _ c.sum.ensures.ran
-    (YieldsList-from_map _ (λ row. exposure_of c.args.kind (plain_position row))
-    (YieldsList-at c.map.ensures.source (YieldsList-from_filter _ (λ row. eqb row.id c.args.id) (YieldsList-from_slice rows cc) c.filter.ensures.closure (λ x b q k. search (rules, tests))))
+    sum_by_from_yields_List (λ row. exposure_of c.args.investee.kind (plain_position row)) (rows_on c.args.investee.id rows) _ _ c.sum.ensures.ran
+    (YieldsList-from_map _ (λ row. exposure_of c.args.investee.kind (plain_position row))
+    (YieldsList-at c.map.ensures.source (YieldsList-from_filter _ (λ row. eqb row.id c.args.investee.id) (YieldsList-from_slice rows cc) c.filter.ensures.closure (λ x b q k. search (rules, tests))))
     c.map.ensures.closure (λ x r q k. search rules))
-    ∙ sym (exposures-rows c.args.kind (rows_on c.args.id rows))
-    ∙ ap (λ qs. exposures (map (lent_by c.args.kind) qs)) (on-view c.args.id rows)
+    ∙ sym (exposures-rows c.args.investee.kind (rows_on c.args.investee.id rows))
+    ∙ ap (λ qs. exposures (map (lent_by c.args.investee.kind) qs)) (on-view c.args.investee.id rows)

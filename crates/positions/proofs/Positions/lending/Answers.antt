@@ -8,13 +8,13 @@ pub loop-row-preserved : goal.loop-row-preserved
 loop-row-preserved c =
     let rows = rows_in c.args.self.now.rows in
     let row = c.in-Some.row.now in
-    let turn = row-next c.args.id rows c.into_iter-row-iterator.ensures.into_iter_gives (cc) c.filter-row-items.ensures.closure (λ x b q k. search (rules, tests)) c.loop-row.yielded _ c.loop-row.yielded_by _ _ c.in-Some.row c.in-Some.is c.next.ensures.steps in
+    let turn = row-next c.args.investee.id rows c.into_iter-row-iterator.ensures.into_iter_gives (cc) c.filter-row-items.ensures.closure (λ x b q k. search (rules, tests)) c.loop-row.yielded _ c.loop-row.yielded_by _ _ c.in-Some.row c.in-Some.is c.next.ensures.steps in
     rw (length_push c.loop-row.yielded c.in-Some.row)
-    (lent-more c.args.kind (rows_on c.args.id rows) (length c.loop-row.yielded) row c.loop-row.lending turn.0 turn.1 c.loop-row.invariant
+    (lent-more c.args.investee.kind (rows_on c.args.investee.id rows) (length c.loop-row.yielded) row c.loop-row.lending turn.0 turn.1 c.loop-row.invariant
     c.exposure.result c.closing.result c.exposure.ensures.value c.exposure.ensures.bound c.closing.ensures.value c.closing.ensures.bound)
 
 pub returns : goal.returns
 returns c =
     let rows = rows_in c.args.self.now.rows in
-    let end = rows-end c.args.id rows c.into_iter-row-iterator.ensures.into_iter_gives (cc) c.filter-row-items.ensures.closure (λ x b q k. search (rules, tests)) c.loop-row.yielded _ c.loop-row.yielded_by _ _ c.in-None.is c.next.ensures.steps in
-    lent-all c.args.kind c.args.id rows (length c.loop-row.yielded) c.loop-row.lending end c.loop-row.invariant
+    let end = rows-end c.args.investee.id rows c.into_iter-row-iterator.ensures.into_iter_gives (cc) c.filter-row-items.ensures.closure (λ x b q k. search (rules, tests)) c.loop-row.yielded _ c.loop-row.yielded_by _ _ c.in-None.is c.next.ensures.steps in
+    lent-all c.args.investee.kind c.args.investee.id rows (length c.loop-row.yielded) c.loop-row.lending end c.loop-row.invariant

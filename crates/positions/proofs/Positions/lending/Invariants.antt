@@ -4,4 +4,4 @@ use Rattle.positions.proofs.Walks.{LentSofar, rows_on}
 use Rattle.positions.proofs.Positions.lending.Given as goal
 
 abbrev pub invariant-loop-row : goal.invariant-loop-row
-invariant-loop-row l = LentSofar l.kind (rows_on l.fn.id (rows_in l.fn.self.rows)) (length l.yielded) l.lending
+invariant-loop-row l = LentSofar l.fn.investee.kind (rows_on l.fn.investee.id (rows_in l.fn.self.rows)) (length l.yielded) l.lending

@@ -4,4 +4,4 @@ use Rattle.positions.proofs.Walks.{NoTurnYet, rows_on}
 use Rattle.positions.proofs.Positions.turn.Given as goal
 
 abbrev pub invariant-loop-row : goal.invariant-loop-row
-invariant-loop-row l = NoTurnYet l.kind l.branch (rows_on l.fn.id (rows_in l.fn.self.rows)) (length l.yielded) l.before
+invariant-loop-row l = NoTurnYet l.fn.investee.kind l.branch (rows_on l.fn.investee.id (rows_in l.fn.self.rows)) (length l.yielded) l.before

@@ -6,19 +6,19 @@ use Rattle.positions.proofs.Walks.{row-next, rows-end, rows_on}
 use Rattle.positions.proofs.Positions.turns.Goals as goal
 
 pub loop-row-init : goal.loop-row-init
-loop-row-init c = turns-first c.args.kind (rows_on c.args.id (rows_in c.args.self.now.rows))
+loop-row-init c = turns-first c.args.investee.kind (rows_on c.args.investee.id (rows_in c.args.self.now.rows))
 
 pub loop-row-preserved : goal.loop-row-preserved
 loop-row-preserved c =
     let rows = rows_in c.args.self.now.rows in
     let row = c.in-Some.row.now in
-    let turn = row-next c.args.id rows c.into_iter-row-iterator.ensures.into_iter_gives (cc) c.filter-row-items.ensures.closure (λ x b q k. search (rules, tests)) c.loop-row.yielded _ c.loop-row.yielded_by _ _ c.in-Some.row c.in-Some.is c.next.ensures.steps in
+    let turn = row-next c.args.investee.id rows c.into_iter-row-iterator.ensures.into_iter_gives (cc) c.filter-row-items.ensures.closure (λ x b q k. search (rules, tests)) c.loop-row.yielded _ c.loop-row.yielded_by _ _ c.in-Some.row c.in-Some.is c.next.ensures.steps in
     rw (length_push c.loop-row.yielded c.in-Some.row)
-    (turns-on c.args.kind (rows_on c.args.id rows) (length c.loop-row.yielded) row turn.0 turn.1 c.loop-row.before c.loop-row.turns c.loop-row.invariant
+    (turns-on c.args.investee.kind (rows_on c.args.investee.id rows) (length c.loop-row.yielded) row turn.0 turn.1 c.loop-row.before c.loop-row.turns c.loop-row.invariant
     c.exposure-exposure.result c.exposure-exposure.ensures.value c.exposure-exposure.ensures.bound c.note.new.turns c.note.ensures)
 
 pub returns : goal.returns
 returns c =
     let rows = rows_in c.args.self.now.rows in
-    let end = rows-end c.args.id rows c.into_iter-row-iterator.ensures.into_iter_gives (cc) c.filter-row-items.ensures.closure (λ x b q k. search (rules, tests)) c.loop-row.yielded _ c.loop-row.yielded_by _ _ c.in-None.is c.next.ensures.steps in
-    turns-all c.args.kind c.args.id rows (length c.loop-row.yielded) c.loop-row.before c.loop-row.turns end c.loop-row.invariant
+    let end = rows-end c.args.investee.id rows c.into_iter-row-iterator.ensures.into_iter_gives (cc) c.filter-row-items.ensures.closure (λ x b q k. search (rules, tests)) c.loop-row.yielded _ c.loop-row.yielded_by _ _ c.in-None.is c.next.ensures.steps in
+    turns-all c.args.investee.kind c.args.investee.id rows (length c.loop-row.yielded) c.loop-row.before c.loop-row.turns end c.loop-row.invariant

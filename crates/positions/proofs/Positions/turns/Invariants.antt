@@ -5,4 +5,4 @@ use Rattle.positions.proofs.Walks.{rows_on}
 use Rattle.positions.proofs.Positions.turns.Given as goal
 
 abbrev pub invariant-loop-row : goal.invariant-loop-row
-invariant-loop-row l = TurnsSofar l.kind (rows_on l.fn.id (rows_in l.fn.self.rows)) (length l.yielded) l.before l.turns
+invariant-loop-row l = TurnsSofar l.fn.investee.kind (rows_on l.fn.investee.id (rows_in l.fn.self.rows)) (length l.yielded) l.before l.turns

@@ -1,21 +1,20 @@
-use Rattle.std.proofs.Common.{ltb, ◌<◌, length, set, sym, ap, ◌∙◌, arith}
-use Rattle.std.proofs.lemmas.Bool.{cond-true, lt-ltb}
+use Rattle.std.proofs.Common.{◌<◌, ◌≤◌, length, is_some, sym, ap, ◌∙◌, arith}
 use Rattle.std.proofs.lemmas.List.{length-map}
 use Rattle.fixed_tables.specs.Tables.{rows_in}
 use Rattle.positions.specs.Entries.{written}
 use Rattle.positions.specs.Rows.{plain_position, plain_positions}
 use Rattle.positions.specs.View.{positions_in}
-use Rattle.positions.proofs.Places.{written-at, change-past}
+use Rattle.positions.proofs.Places.{written-view, change-past, lent-row, lent-none}
 use Rattle.positions.proofs.Positions.write.Goals as goal
 
-pub returns-then-at-len : goal.returns-then-at-len
-returns-then-at-len c =
-    let rows = rows_in c.args.self.now.rows in
-    let inside : c.args.at < length rows = omega (arith, c.if-at-len.true, c.len.ensures) in
-    ap plain_positions (c.set.ensures ∙ cond-true (ltb c.args.at (length rows)) (set rows c.args.at c.write.new.self) rows (lt-ltb c.args.at (length rows) inside))
-    ∙ written-at plain_position (written c.args.month c.args.balance) rows c.as_slice.result.now c.args.at _ c.write.new.self c.as_slice.ensures.rows inside c.write.ensures
+pub returns-in-Some : goal.returns-in-Some
+returns-in-Some c =
+    let there : c.args.at < length (rows_in c.args.self.now.rows) = c.get_mut.ensures.there.0 (ap is_some c.in-Some.is) in
+    ap plain_positions (lent-row _ _ c.in-Some.is (c.get_mut.follows.holds c.write.new.self))
+    ∙ written-view plain_position (written c.args.month c.args.balance) (rows_in c.args.self.now.rows) c.args.at c.in-Some.row.now c.write.new.self there c.in-Some.ensures.row c.write.ensures
 
-pub returns-else-at-len : goal.returns-else-at-len
-returns-else-at-len c =
-    let rows = rows_in c.args.self.now.rows in
-    sym (change-past (written c.args.month c.args.balance) (positions_in c.args.self.now) c.args.at (omega (arith, c.if-at-len.false, c.len.ensures, length-map rows plain_position)))
+pub returns-in_default : goal.returns-in_default
+returns-in_default c =
+    let past : length (rows_in c.args.self.now.rows) ≤ c.args.at = lent-none c.get_mut.result c.args.at _ c.in_default.is c.get_mut.ensures.there in
+    ap plain_positions c.get_mut.follows.holds-at-none
+    ∙ sym (change-past (written c.args.month c.args.balance) (positions_in c.args.self.now) c.args.at (omega (arith, past, length-map (rows_in c.args.self.now.rows) plain_position)))
