@@ -14,7 +14,7 @@ use Rattle.plain.specs.Sums.{sum_over}
 use Rattle.plain.proofs.Integers.{linear}
 use Rattle.plain.proofs.Sizes.{sum-within}
 use Rattle.book.specs.Lines.{no_line, covered, takes, taken, no_sums, plus_line, sums_of, LineWithinLimits, AtMostLines}
-use Rattle.book.specs.Shares.{measured, added, AtMostFigures}
+use Rattle.book.specs.Shares.{measured, no_kilograms, added, AtMostFigures}
 use Rattle.book.specs.declared.book.readings.lines.Group.{Group}
 use Rattle.book.specs.declared.book.readings.lines.Line.{Line}
 use Rattle.book.specs.declared.book.readings.lines.Sums.{Sums}
@@ -41,6 +41,13 @@ summed-more f xs k d h s y is-s is_y =
     let e = sum_more (λ x. (f x).emissions) xs k d h in
     let r = sum_more (λ x. (f x).reductions) xs k d h in
     ap₂ added is-s is_y ∙ sym (λ i. record { emissions = e i; reductions = r i })
+
+-- what `default` gives
+pub none-kilograms : (k : Kilograms) → (k.emissions ≡ pos 0) × (k.reductions ≡ pos 0) → k ≡ no_kilograms
+none-kilograms k e = λ i. record { emissions = e.0 i; reductions = e.1 i }
+
+pub none-sums : (s : Sums) → ((s.kilograms.emissions ≡ pos 0) × (s.kilograms.reductions ≡ pos 0)) × ((s.positions ≡ 0) × ((s.counted ≡ 0) × (s.reduced ≡ 0))) → s ≡ no_sums
+none-sums s e = λ i. record { kilograms = none-kilograms s.kilograms e.0 i; positions = e.1.0 i; counted = e.1.1.0 i; reduced = e.1.1.1 i }
 
 pub summed-none : {X : Type 0} (f : X → Kilograms) → record { emissions = pos 0; reductions = pos 0 } ≡ summed f []
 unfolding sum_over

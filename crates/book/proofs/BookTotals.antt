@@ -1,10 +1,10 @@
 -- The book total, from the lines of a book.
-use Rattle.std.proofs.Common.{◌≡◌, ℕ, ◌+◌, ◌*◌, ◌<◌, ◌≤◌, Bool, true, false, cond, eqb, List, [], ◌∷◌, ◌++◌, map, length, get_or, take, set, ℤ, pos, ◌+ℤ◌, sum_by, filter, sym, refl, ap, ◌∙◌, ap₂, arith, take_all}
+use Rattle.std.proofs.Common.{◌≡◌, ℕ, ◌+◌, ◌*◌, ◌≤◌, Bool, true, false, cond, eqb, List, [], ◌∷◌, map, length, ℤ, pos, ◌+ℤ◌, sum_by, filter, sym, refl, ap, ◌∙◌, ap₂, arith}
 use mathlib.Core.Path.{fun_ext}
 use lib.IntN.{+ℤ_idl}
 use Rattle.std.specs.List.{AllByRecursion}
 use Rattle.std.proofs.ByRecursion.{All-map, All-weaker}
-use Rattle.std.proofs.lemmas.List.{length-map, take_more_set, map_more}
+use Rattle.std.proofs.lemmas.List.{length-map}
 use Rattle.std.proofs.lemmas.List.Sums.{sum_by-cons, length-filter, count_by-le-length}
 use Rattle.grading.specs.Mean.{mean_of, nearest_hundredths}
 use Rattle.rules.specs.Tables.{Tables}
@@ -136,18 +136,6 @@ module _ (t : Tables) (p : PlainBook) where
   }
 
 -- ---- the table of lines
-
-pub filled_more : {X Y : Type 0} (f : X → Y) (xs : List X) (ys : List Y) (k : ℕ) (d : X) (y : Y) → k < length xs → k < length ys → y ≡ f (get_or xs k d) → take k ys ≡ map f (take k xs) → take (k + 1) (set ys k y) ≡ map f (take (k + 1) xs)
-filled_more f xs ys k d y h l is filled = take_more_set ys k y l ∙ ap₂ (λ front z. front ++ z ∷ []) filled is ∙ sym (map_more f xs k d h)
-
-pub map-view : {X Y Z : Type 0} (view : X → Y) (f : Y → Z) (xs : List X) → map (λ x. f (view x)) xs ≡ map f (map view xs)
-map-view view f [] = refl
-map-view view f (x ∷ xs) = ap (λ l. f (view x) ∷ l) (map-view view f xs)
-
-pub filled-all : {X Y Z : Type 0} (view : X → Y) (f : Y → Z) (rows read : List X) (ys : List Z) (n k : ℕ) → read ≡ rows → n ≡ length read → length read ≤ k → k ≤ length read → take k ys ≡ map (λ x. f (view x)) (take k read) → take n ys ≡ map f (map view rows)
-filled-all view f rows read ys n k same long low high filled =
-    let at : n ≡ k = omega arith in
-    ap (λ j. take j ys) at ∙ filled ∙ ap (map (λ x. f (view x))) (take_all k read low ∙ same) ∙ map-view view f rows
 
 -- a slice of the table of lines is read as the lines of the book
 module _ (t : Tables) (p : PlainBook) (kept : KeptByEveryRun p) (lines : List Line) (is : lines ≡ map (line_of t p) p.investees) where

@@ -1,5 +1,6 @@
 pub mod Propositions
 pub mod Finding
+pub mod Filling
 pub mod Books
 pub mod Outcomes
 pub mod Openings

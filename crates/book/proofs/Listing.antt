@@ -1,38 +1,17 @@
--- Tables that a loop fills from the front, and how they are read.
-use Rattle.std.proofs.Common.{◌≡◌, ℕ, zero, suc, ◌+◌, ◌-◌, ◌<◌, ◌≤◌, List, [], ◌∷◌, ◌++◌, map, length, get_or, take, set, replicate, Some, None, Option, sym, refl, ap, ◌∙◌, ap₂, append_assoc, arith}
-use lib.ListN.{length-map}
-use Rattle.std.proofs.lemmas.List.{map-append, map_more, length_push, length-take-le, set_at}
-use Rattle.book.specs.Listed.{listed, until_none}
+-- What stands at each place of a table that lists fewer rows than it has places.
+use Rattle.std.proofs.Common.{◌≡◌, ℕ, ◌-◌, ◌<◌, ◌≤◌, List, map, length, get_or, replicate, Some, None, Option, sym, ap, ◌∙◌, ⊎_elim, arith}
+use Rattle.std.specs.List.{slice_get}
+use Rattle.std.proofs.lemmas.List.{length-map, length-append, length-replicate, get_or-map, get_or_append_left, get_or-append_right, get_or-replicate}
+use Rattle.std.proofs.lemmas.Option.{slice_get_cases}
+use Rattle.book.specs.Listed.{listed}
 
-pub listed-none : {X : Type 0} (n : ℕ) → replicate n None ≡ listed {X = X} n []
-listed-none n = ap (λ k. replicate k None) (omega arith)
+pub listed-long : {X : Type 0} (n : ℕ) (xs : List X) → length xs ≤ n → length (listed n xs) ≡ n
+listed-long {X} n xs few = length-append (map Some xs) (replicate (n - length xs) None) ∙ omega (arith, few, length-map xs Some, length-replicate {A = Option X} (n - length xs) None)
 
-listed-push : {X : Type 0} (n : ℕ) (xs : List X) (y : X) → length xs < n → set (listed n xs) (length xs) (Some y) ≡ listed n (xs ++ y ∷ [])
-listed-push n xs y h =
-    let left : n - length xs ≡ suc (n - (length xs + 1)) = omega arith in
-    let long : n - (length xs + 1) ≡ n - length (xs ++ y ∷ []) = ap (λ k. n - k) (sym (length_push xs y)) in
-    ap (λ k. set (map Some xs ++ replicate k None) (length xs) (Some y)) left
-    ∙ set_at (map Some xs) None (replicate (n - (length xs + 1)) None) (Some y) (length xs) (length-map xs Some)
-    ∙ sym (append_assoc (map Some xs) (Some y ∷ []) (replicate (n - (length xs + 1)) None))
-    ∙ ap₂ ◌++◌ (sym (map-append Some xs (y ∷ []))) (ap (λ k. replicate k None) long)
-
--- one more of the list that the table is made from
-pub listed_more : {X Y : Type 0} (n : ℕ) (f : X → Y) (xs : List X) (k : ℕ) (d : X) (y : Y) (places : List (Option Y)) → k < length xs → length xs ≤ n → y ≡ f (get_or xs k d) → places ≡ listed n (map f (take k xs))
-    → set places k (Some y) ≡ listed n (map f (take (k + 1) xs))
-listed_more n f xs k d y places h few is sofar =
-    let ys = map f (take k xs) in
-    let at : length ys ≡ k = length-map (take k xs) f ∙ length-take-le k xs (omega arith) in
-    ap₂ (λ l j. set l j (Some y)) sofar (sym at)
-    ∙ listed-push n ys y (omega arith)
-    ∙ ap (λ z. listed n (ys ++ z ∷ [])) is
-    ∙ ap (listed n) (sym (map_more f xs k d h))
-
--- a walk that stops at the first None reads the list
-pub until-listed : {X : Type 0} (n : ℕ) (xs : List X) → until_none (listed n xs) ≡ xs
-unfolding until_none
-until-listed {X} n xs = by (n - length xs) xs
-  where
-    by : (k : ℕ) (xs : List X) → until_none (map Some xs ++ replicate k None) ≡ xs
-    by zero [] = refl
-    by (suc k) [] = refl
-    by k (x ∷ xs) = ap (λ l. x ∷ l) (by k xs)
+pub listed-at : {X : Type 0} (n : ℕ) (xs : List X) (k : ℕ) (d : Option X) → length xs ≤ n → k < n → slice_get xs k ≡ get_or (listed n xs) k d
+listed-at n xs k d few lt =
+    let left = n - length xs in
+    ⊎_elim
+    (λ h. h.2 ∙ sym (get_or_append_left (map Some xs) (replicate left None) d k (omega (arith, h.1, length-map xs Some)) ∙ get_or-map Some xs k h.0 d h.1 ∙ ap Some h.3))
+    (λ h. h.1 ∙ sym (get_or-append_right (map Some xs) (replicate left None) (length xs) k d (length-map xs Some) h.0 ∙ get_or-replicate left (k - length xs) None d (omega (arith, h.0, lt))))
+    (slice_get_cases xs k).1

@@ -1,7 +1,5 @@
 -- Restatements and reductions: the place of the investee, and its row written over.
-use Rattle.std.proofs.Common.{◌≡◌, ℕ, ◌<◌, true, ltb, List, length, get_or, set, is_some, Some, None, Ok, Err, ok_or, Option, position, sym, refl, ap, ◌∙◌, arith}
-use Rattle.std.specs.Bool.{if◌then◌else◌}
-use Rattle.std.proofs.lemmas.Bool.{cond-true, lt-ltb}
+use Rattle.std.proofs.Common.{◌≡◌, ℕ, ◌<◌, true, List, length, get_or, set, is_some, Some, None, Ok, Err, ok_or, Option, position, sym, refl, ap, ◌∙◌, arith}
 use Rattle.faults.specs.Refusals.{fault}
 use Rattle.faults.specs.declared.Fault.{Fault}
 use Rattle.faults.specs.declared.Refusal.TheVariants.{NotOpen}
@@ -13,13 +11,14 @@ use Rattle.plain.specs.Refused.{if_open}
 use Rattle.plain.specs.Steps.{Meaning}
 use Rattle.book.specs.declared.rows.InvesteeRow.{InvesteeRow}
 use Rattle.book.specs.Rows.{plain_investee, plain_investees}
-use Rattle.positions.proofs.Places.{first-nowhere, found_alike, row_within, written-at, change-at-place}
+use Rattle.positions.proofs.Places.{first-nowhere, found_alike, row_within, written-view, change-at-place}
 
 -- ---- the place
 
-open-some : (o : Option ℕ) (k : ℕ) → Ok k ≡ ok_or o (fault NotOpen 0 0) → Some k ≡ o
-open-some (Some j) k e = let same : k ≡ j = cc in ap Some same
-open-some None k e = let z : ◌≡◌ {A = ℕ} 0 1 = cc in absurd (omega arith)
+-- what an answer that is no fault was made of
+pub some-from : {X E : Type 0} (o : Option X) (e : E) (x : X) → Ok x ≡ ok_or o e → Some x ≡ o
+some-from (Some y) e x is = let same : x ≡ y = cc in ap Some same
+some-from None e x is = let z : ◌≡◌ {A = ℕ} 0 1 = cc in absurd (omega arith)
 
 open_none : (o : Option ℕ) (f : Fault) → Err f ≡ ok_or o (fault NotOpen 0 0) → (None ≡ o) × (fault NotOpen 0 0 ≡ f)
 open_none (Some j) f e = let z : ◌≡◌ {A = ℕ} 0 1 = cc in absurd (omega arith)
@@ -35,7 +34,7 @@ module _ (p : PlainBook) (id : ℕ) where
   pub is-open : (k : ℕ) (rest : Option Fault) → Ok k ≡ ok_or (position (has_id id) p.investees) (fault NotOpen 0 0) → if_open (investee_of id p) (λ x. rest) ≡ rest
   is-open k rest e =
       by (investee_of id p)
-      (sym (found_alike (has_id id) p.investees) ∙ ap is_some (sym (open-some (position (has_id id) p.investees) k e)))
+      (sym (found_alike (has_id id) p.investees) ∙ ap is_some (sym (some-from (position (has_id id) p.investees) _ k e)))
     where
       by : (o : Option PlainInvestee) → is_some o ≡ true → if_open o (λ x. rest) ≡ rest
       by None h = let z : ◌≡◌ {A = ℕ} 0 1 = cc in absurd (omega arith)
@@ -45,13 +44,11 @@ module _ (p : PlainBook) (id : ℕ) where
 
 module _ (xs : List InvesteeRow) (id k : ℕ) (at : Ok k ≡ ok_or (position (has_id id) (plain_investees xs)) (fault NotOpen 0 0)) where
   pub open-within : k < length xs
-  open-within = row_within plain_investee (has_id id) xs k (open-some (position (has_id id) (plain_investees xs)) k at)
+  open-within = row_within plain_investee (has_id id) xs k (some-from (position (has_id id) (plain_investees xs)) _ k at)
 
-  -- the old row was read in the same rows, with any default
-  pub reread : (change : Reading → PlainInvestee → PlainInvestee) (m : Meaning) (r : Reading) (rows : List InvesteeRow) (d new : InvesteeRow) → m ≡ Ok r → rows ≡ xs → plain_investee new ≡ change r (plain_investee (get_or rows k d))
-      → plain_investees (if ltb k (length xs) then set xs k new else xs) ≡ change_first (has_id id) (read_into change m) (plain_investees xs)
-  reread change m r rows d new read same e =
-      ap plain_investees (cond-true (ltb k (length xs)) (set xs k new) xs (lt-ltb k (length xs) open-within))
-      ∙ written-at plain_investee (change r) xs rows k d new same open-within e
-      ∙ change-at-place (has_id id) (change r) (plain_investees xs) k (open-some (position (has_id id) (plain_investees xs)) k at) (plain_investee (get_or rows k d))
+  pub reread : (change : Reading → PlainInvestee → PlainInvestee) (m : Meaning) (r : Reading) (old new : InvesteeRow) → m ≡ Ok r → old ≡ get_or xs k old → plain_investee new ≡ change r (plain_investee old)
+      → plain_investees (set xs k new) ≡ change_first (has_id id) (read_into change m) (plain_investees xs)
+  reread change m r old new read is e =
+      written-view plain_investee (change r) xs k old new open-within is e
+      ∙ change-at-place (has_id id) (change r) (plain_investees xs) k (some-from (position (has_id id) (plain_investees xs)) _ k at) (plain_investee old)
       ∙ ap (λ n. change_first (has_id id) (read_into change n) (plain_investees xs)) (sym read)

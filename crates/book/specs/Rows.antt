@@ -8,8 +8,8 @@ use Rattle.book.specs.declared.rows.InvesteeRow.{InvesteeRow}
 abbrev pub plain_investee : InvesteeRow → PlainInvestee
 plain_investee x = record {
   profile = x.profile;
-  kilograms = x.kilograms;
-  grade = x.grade;
+  kilograms = x.reading.kilograms;
+  grade = x.reading.grade;
   reduction = unwrap_or x.reduction (pos 0);
   reduced = is_some x.reduction;
 }

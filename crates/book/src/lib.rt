@@ -3,5 +3,4 @@
 
 pub mod book;
 pub mod calls;
-mod filled;
 mod rows;

@@ -11,8 +11,7 @@ use sources::reading::Reading;
 #[derive(Clone, Copy)]
 pub struct InvesteeRow {
     pub profile: Profile,
-    pub kilograms: i64,
-    pub grade: u8,
+    pub reading: Reading,
     pub reduction: Option<i64>,
 }
 
@@ -23,8 +22,7 @@ impl InvesteeRow {
     {
         InvesteeRow {
             profile,
-            kilograms: first.kilograms,
-            grade: first.grade,
+            reading: first,
             reduction: None,
         }
     }
@@ -33,11 +31,7 @@ impl InvesteeRow {
     pub(crate) fn restated(self, reading: Reading) -> InvesteeRow
         ensures { plain_investee result ≡ restated reading (plain_investee self) }
     {
-        InvesteeRow {
-            kilograms: reading.kilograms,
-            grade: reading.grade,
-            ..self
-        }
+        InvesteeRow { reading, ..self }
     }
 
     // The investee with a reduction set. Its grade stays that of its emissions.

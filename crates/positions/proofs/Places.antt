@@ -114,11 +114,6 @@ written-view view change xs k old new h is e =
     ∙ ap (set (map view xs) k) (e ∙ ap change (ap view is ∙ sym (get_or-map view xs k old (view old) h)))
     ∙ sym (change-set change (map view xs) k (view old))
 
--- the same, where the old row was read in the same list with any default
-pub written-at : {X Y : Type 0} (view : X → Y) (change : Y → Y) (xs read : List X) (k : ℕ) (d new : X) → read ≡ xs → k < length xs → view new ≡ change (view (get_or read k d)) → map view (set xs k new) ≡ change_at k change (map view xs)
-written-at view change xs read k d new same h e =
-    written-view view change xs k (get_or read k d) new h (get_or_default read k d (get_or read k d) (omega (arith, h, ap length same)) ∙ ap (λ l. get_or l k (get_or read k d)) same) e
-
 -- a row is added where a table is not full: so is its view
 pub added-view : {X Y E : Type 0} (view : X → Y) (full : Bool) (xs new : List X) (x : X) (e : E) (r : Result (Unit {0}) E) → new ≡ cond full xs (xs ++ x ∷ []) → r ≡ cond full (Err e) (Ok tt) → map view new ≡ cond (is_ok r) (map view xs ++ view x ∷ []) (map view xs)
 added-view view true xs new x e r is told = ap (map view) is ∙ sym (ap (λ s. cond (is_ok s) (map view xs ++ view x ∷ []) (map view xs)) told)

@@ -10,6 +10,7 @@ ghost use Rattle.book.specs.View.{plain};
 use crate::book::Book;
 use crate::rows::InvesteeRow;
 use faults::{Fault, Refusal};
+use plain::limits::full_of_investees;
 use rules::investees::{InvesteeFields, Profile};
 use rules::rule::Rule;
 use sources::reading::Reading;
@@ -31,7 +32,7 @@ impl<'r, R: Rule> Book<'r, R> {
     fn is_full(&self) -> bool
         ensures { result ≡ nat_le most_investees (length (plain self.now).investees) }
     {
-        self.investees.is_full()
+        full_of_investees(self.investees.len())
     }
 
     // The investee that the fields describe, if the book and its rule take it.
@@ -45,9 +46,7 @@ impl<'r, R: Rule> Book<'r, R> {
         if self.is_full() {
             return Err(Fault::plain(Refusal::InvesteesFull));
         }
-        self.rule
-            .base(profile.kind, profile.figures)
-            .map_err(Fault::plain)?;
+        self.rule.base(profile.kind, profile.figures)?;
         Ok(profile)
     }
 
@@ -59,6 +58,7 @@ impl<'r, R: Rule> Book<'r, R> {
     {
         let profile = self.taken(fields)?;
         let reading = emissions(source)?;
+        // That there is room was asked already, by `taken`.
         let _ = self.investees.push(InvesteeRow::opened(profile, reading));
         Ok(())
     }

@@ -20,7 +20,8 @@ use rules::figures::Base;
 use rules::kinds::Kind;
 use rules::rule::Rule;
 
-// A balance of a month that a branch sends for an investee, with numbers as a caller sends them.
+// A balance of a month that a branch sends for an investee, with numbers as a caller sends them. It is the book's own and
+// not an entry of a file: a book knows no files.
 #[derive(Clone, Copy)]
 struct Entry {
     branch: u64,
@@ -61,10 +62,7 @@ fn moved(exposure: u64, kind: Kind, old: u64, new: u64) -> u64
 fn passes(exposure: u64, base: Result<Base, Refusal>) -> bool
     ensures { result ≡ passes exposure (denominator_from base) }
 {
-    match base {
-        Ok(Base::Amount(amount)) => u128::from(exposure) > u128::from(MONTHS) * u128::from(amount),
-        _ => false,
-    }
+    matches!(base, Ok(Base::Amount(amount)) if u128::from(exposure) > u128::from(MONTHS) * u128::from(amount))
 }
 
 // Whether so much may be lent to an investee.
@@ -101,7 +99,7 @@ impl<'r, R: Rule> Book<'r, R> {
         requires { EntryFor (plain self.now) entry.branch entry.month entry.balance (plain_investee row) }
         ensures { result ≡ failing (post_fault (R.tables self.now.rule.now) (plain self.now) (plain_investee row) entry.branch entry.month entry.balance) }
     {
-        let id = row.profile.id as u64;
+        let id = u64::from(row.profile.id);
         if self
             .positions
             .balance(entry.branch, id, entry.month)
@@ -121,14 +119,15 @@ impl<'r, R: Rule> Book<'r, R> {
         requires { EntryFor (plain self.now) entry.branch entry.month entry.balance (plain_investee row) }
         ensures { result ≡ failing (amend_fault (R.tables self.now.rule.now) (plain self.now) (plain_investee row) entry.branch entry.month entry.balance) }
     {
-        let id = row.profile.id as u64;
-        let Some(old) = self.positions.balance(entry.branch, id, entry.month) else {
-            return Err(Fault::plain(Refusal::MonthNotPosted));
-        };
+        let id = u64::from(row.profile.id);
+        let old = self
+            .positions
+            .balance(entry.branch, id, entry.month)
+            .ok_or(Fault::plain(Refusal::MonthNotPosted))?;
         let exposure = moved(
             self.exposure(row),
             row.profile.kind,
-            old as u64,
+            u64::from(old),
             entry.balance,
         );
         may_lend(self.rule, row, exposure)
@@ -148,6 +147,7 @@ impl<'r, R: Rule> Book<'r, R> {
         };
         let row = self.investee_for(entry)?;
         self.may_post(entry, row)?;
+        // That there is room was asked already, by `may_post`.
         self.positions
             .enter(branch as u8, row.profile.id, month, balance as u32);
         Ok(())

@@ -26,11 +26,6 @@ mod accounts;
 mod lines;
 pub mod sheets;
 
-const NO_KILOGRAMS: Kilograms = Kilograms {
-    emissions: 0,
-    reductions: 0,
-};
-
 // What the exposures to an investee, added up, are divided by: a base of 0 is taken as 1.
 fn base_of(base: Result<Base, Refusal>, exposure: u64) -> u64
     requires { BaseInRange base }
@@ -52,7 +47,7 @@ fn rounded_of(figure: i64, exposure: u64, base: u64) -> i64
     figure * (exposure as i64) / (base as i64)
 }
 
-// The difference of two such shares.
+// The difference of two such shares: a function of its own, as `sum` is, so that 64 bits are shown outside larger proofs.
 fn difference(upto: i64, before: i64) -> i64
     requires { (unsigned_abs upto ≤ most_kilograms) × (unsigned_abs before ≤ most_kilograms) }
     ensures { result ≡ upto -ℤ before }
@@ -125,7 +120,7 @@ fn shares(standing: Standing, turn: Turn, row: InvesteeRow) -> Kilograms
     ensures { result ≡ both_fall standing turn (plain_investee row) }
 {
     Kilograms {
-        emissions: share(standing, turn, row.kilograms),
+        emissions: share(standing, turn, row.reading.kilograms),
         reductions: share(standing, turn, row.reduction.unwrap_or(0)),
     }
 }
@@ -156,7 +151,7 @@ impl<'b, 'r, R: Rule> Held<'b, 'r, R> {
         ensures { result ≡ standing_of (R.tables self.now.book.now.rule.now) (plain self.now.book.now).positions (plain_investee self.now.row) }
     {
         let profile = self.row.profile;
-        let lending = self.book.positions.lending(profile.kind, profile.id);
+        let lending = self.book.positions.lending(profile);
         let attribution = attributed(self.book.rule, profile, lending.exposure, lending.closing);
         Standing {
             positions: lending.positions,
@@ -171,7 +166,7 @@ impl<'b, 'r, R: Rule> Held<'b, 'r, R> {
         ensures { result ≡ part_of (R.tables self.now.book.now.rule.now) (plain self.now.book.now) branch (plain_investee self.now.row) }
     {
         let profile = self.row.profile;
-        let turn = self.book.positions.turn(profile.kind, profile.id, branch);
+        let turn = self.book.positions.turn(profile, branch);
         shares(self.standing(), turn, self.row)
     }
 
@@ -183,7 +178,7 @@ impl<'b, 'r, R: Rule> Held<'b, 'r, R> {
         InvesteeTotal {
             kilograms: whole_shares(standing, self.row),
             reason: standing.reason,
-            grade: self.row.grade,
+            grade: self.row.reading.grade,
         }
     }
 }

@@ -20,8 +20,9 @@ impl<'r, R: Rule> Book<'r, R> {
     {
         let at = self.place(id)?;
         let reading = emissions(source)?;
-        let row = self.investees.as_slice()[at];
-        self.investees.set(at, row.restated(reading));
+        if let Some(row) = self.investees.get_mut(at) {
+            *row = row.restated(reading);
+        }
         Ok(())
     }
 
@@ -33,8 +34,9 @@ impl<'r, R: Rule> Book<'r, R> {
     {
         let at = self.place(id)?;
         let reading = source.read()?;
-        let row = self.investees.as_slice()[at];
-        self.investees.set(at, row.reduced_by(reading));
+        if let Some(row) = self.investees.get_mut(at) {
+            *row = row.reduced_by(reading);
+        }
         Ok(())
     }
 }

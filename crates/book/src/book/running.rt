@@ -19,31 +19,21 @@ impl<'r, R: Rule> Book<'r, R> {
         ensures told { result ≡ answer (R.tables self.old.rule.now) (plain self.old) (step_of S.meaning call.now) }
     {
         match call {
-            Call::Open { fields, source } => self
-                .open(*fields, source)
-                .map_or_else(Answer::Declined, |()| Answer::Done),
-            Call::Restate { id, source } => self
-                .restate(*id, source)
-                .map_or_else(Answer::Declined, |()| Answer::Done),
-            Call::Reduce { id, source } => self
-                .reduce(*id, source)
-                .map_or_else(Answer::Declined, |()| Answer::Done),
+            Call::Open { fields, source } => Answer::from(self.open(*fields, source)),
+            Call::Restate { id, source } => Answer::from(self.restate(*id, source)),
+            Call::Reduce { id, source } => Answer::from(self.reduce(*id, source)),
             Call::Post {
                 branch,
                 id,
                 month,
                 balance,
-            } => self
-                .post(*branch, *id, *month, *balance)
-                .map_or_else(Answer::Declined, |()| Answer::Done),
+            } => Answer::from(self.post(*branch, *id, *month, *balance)),
             Call::Amend {
                 branch,
                 id,
                 month,
                 balance,
-            } => self
-                .amend(*branch, *id, *month, *balance)
-                .map_or_else(Answer::Declined, |()| Answer::Done),
+            } => Answer::from(self.amend(*branch, *id, *month, *balance)),
             Call::Part { id, branch } => self
                 .part(*id, *branch)
                 .map_or_else(Answer::Declined, Answer::Part),
@@ -66,7 +56,7 @@ impl<'r, R: Rule> Book<'r, R> {
         ensures reached { ReachedByARun (R.tables self.old.rule.now) (plain self.old) → ReachedByARun (R.tables self.new.rule.now) (plain self.new) }
     {
         let count = calls.len().min(answers.len());
-        // By index: of what is written through an adapter of `iter_mut` a proof knows nothing.
+        // By index: after a `zip` over `iter_mut` a proof knows nothing of what was written.
         for (i, call) in calls[..count].iter().enumerate() {
             let answer = self.apply(call);
             answers[i] = answer;

@@ -4,9 +4,9 @@ ghost use Rattle.std.specs.List.{AllByRecursion};
 ghost use Rattle.plain.specs.Limits.{most_investees, most_positions};
 ghost use Rattle.plain.specs.Readings.{project_kind, hundredths};
 ghost use Rattle.plain.specs.Exposures.{emissions as of_emissions, reductions as of_reductions};
-ghost use Rattle.book.specs.Lines.{weight_of, grade_of, covered, takes, taken, plus_line, no_sums, sums_of, subtotal_from, book_total_from, LineWithinLimits, AtMostLines};
+ghost use Rattle.book.specs.Lines.{weight_of, grade_of, covered, takes, taken, plus_line, sums_of, subtotal_from, book_total_from, LineWithinLimits, AtMostLines};
 
-use crate::book::readings::{NO_KILOGRAMS, added};
+use crate::book::readings::added;
 use grading::{Graded, mean};
 use plain::answers::{BookTotal, Kilograms, Subtotal};
 use plain::limits::MOST_EXPOSURE;
@@ -16,7 +16,7 @@ mod totals;
 
 // One investee: what falls to all branches, and how many positions there are on it, with what tells whether it is counted.
 // Each flag is counted by itself: no value of a line is missing where one of them is false.
-#[derive(Clone, Copy)]
+#[derive(Clone, Copy, Default)]
 struct Line {
     project: bool,
     kilograms: Kilograms,
@@ -55,7 +55,7 @@ enum Group {
 }
 
 // The lines of a group added up: kilograms, positions, and how many of these emissions and reductions cover.
-#[derive(Clone, Copy)]
+#[derive(Clone, Copy, Default)]
 struct Sums {
     kilograms: Kilograms,
     positions: u64,
@@ -63,20 +63,10 @@ struct Sums {
     reduced: u64,
 }
 
-const NO_LINE: Line = Line {
-    project: false,
-    kilograms: NO_KILOGRAMS,
-    positions: 0,
-    counted: false,
-    reduced: false,
-    exposure: 0,
-    grade: 0,
-};
-
 fn is_project(kind: Kind) -> bool
     ensures { result ≡ project_kind kind }
 {
-    matches!(kind, Kind::Project)
+    kind == Kind::Project
 }
 
 // So many of all in hundredths of a percent, toward zero; nothing where there are none.
@@ -125,19 +115,10 @@ impl Group {
     fn taken(self, line: Line) -> Line
         ensures { result ≡ taken self line }
     {
-        if self.takes(line) { line } else { NO_LINE }
-    }
-}
-
-impl Sums {
-    fn none() -> Sums
-        ensures { result ≡ no_sums }
-    {
-        Sums {
-            kilograms: NO_KILOGRAMS,
-            positions: 0,
-            counted: 0,
-            reduced: 0,
+        if self.takes(line) {
+            line
+        } else {
+            Line::default()
         }
     }
 }
@@ -180,7 +161,8 @@ impl<'l> Lines<'l> {
     fn sums(&self, group: Group) -> Sums
         ensures { result ≡ sums_of group self.now.lines.now }
     {
-        let mut sums = Sums::none();
+        let mut sums = Sums::default();
+        // A `for` and no fold: the bound on each sum so far is the loop's invariant.
         for line in self.lines {
             sums = plus(sums, group.taken(*line));
         }

@@ -12,15 +12,12 @@ ghost use Rattle.plain.specs.Told.{told};
 ghost use Rattle.book.specs.View.{plain};
 
 use crate::book::Book;
-use crate::book::readings::{Held, NO_KILOGRAMS, added, shares};
-use crate::filled::filled;
+use crate::book::readings::{Held, added, shares};
 use faults::{Fault, Refusal};
 use plain::answers::Kilograms;
-use plain::limits::{BRANCHES, branch_out_of_range};
+use plain::limits::{BRANCH_ROWS, branch_out_of_range};
 use rules::rule::Rule;
-
-// A sheet for each branch.
-pub const SHEETS: usize = BRANCHES as usize;
+use std::array;
 
 impl<'b, 'r, R: Rule> Held<'b, 'r, R> {
     // Adds its parts to the sums of the branches: the rule is asked once, and the positions are read twice.
@@ -30,8 +27,8 @@ impl<'b, 'r, R: Rule> Held<'b, 'r, R> {
     {
         let standing = self.standing();
         let profile = self.row.profile;
-        let turns = self.book.positions.turns(profile.kind, profile.id);
-        // By index: of what is written through an adapter of `iter_mut` a proof knows nothing.
+        let turns = self.book.positions.turns(profile);
+        // By index: after a `zip` over `iter_mut` a proof knows nothing of what was written.
         for (k, turn) in turns.iter().enumerate() {
             if let Some(turn) = turn {
                 sums[k] = added(sums[k], shares(standing, *turn, self.row));
@@ -45,7 +42,8 @@ impl<'r, R: Rule> Book<'r, R> {
     fn sheet_of(&self, branch: u64) -> Kilograms
         ensures { result ≡ sheet_of (R.tables self.now.rule.now) (plain self.now) branch }
     {
-        let mut sum = NO_KILOGRAMS;
+        let mut sum = Kilograms::default();
+        // A `for` and no fold: the bound on each sum so far is the loop's invariant.
         for &row in self.investees.as_slice() {
             let part = Held { book: self, row }.part(branch);
             sum = added(sum, part);
@@ -64,11 +62,11 @@ impl<'r, R: Rule> Book<'r, R> {
     }
 
     // The parts of all branches, from branch 1 on, added up over all investees.
-    fn all_sheets(&self) -> [Kilograms; SHEETS]
+    fn all_sheets(&self) -> [Kilograms; BRANCH_ROWS]
         ensures long { length result ≡ branch_count }
         ensures sheets { (n : ℕ) → n < branch_count → slice_index_or result n no_kilograms ≡ sheet_of (R.tables self.now.rule.now) (plain self.now) (n + 1) }
     {
-        let mut sums = filled(NO_KILOGRAMS);
+        let mut sums = [Kilograms::default(); BRANCH_ROWS];
         for &row in self.investees.as_slice() {
             Held { book: self, row }.add_parts(&mut sums);
         }
@@ -83,15 +81,10 @@ impl<'r, R: Rule> Book<'r, R> {
     }
 
     // The sheets of all branches, from branch 1 on: None for a branch without a position.
-    pub fn sheets(&self) -> [Option<Kilograms>; SHEETS]
+    pub fn sheets(&self) -> [Option<Kilograms>; BRANCH_ROWS]
         ensures { result ≡ sheets_of (R.tables self.now.rule.now) (plain self.now) }
     {
         let sums = self.all_sheets();
-        let mut sheets = filled(None);
-        // By index: of what is written through an adapter of `iter_mut` a proof knows nothing.
-        for (k, &sum) in sums.iter().enumerate() {
-            sheets[k] = self.if_lent(k as u64 + 1, sum);
-        }
-        sheets
+        array::from_fn(|k| self.if_lent(k as u64 + 1, sums[k]))
     }
 }

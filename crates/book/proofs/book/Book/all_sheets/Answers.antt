@@ -1,4 +1,4 @@
-use Rattle.std.proofs.Common.{◌+◌, length, get_or, refl, ap, ◌∙◌, arith, take_all}
+use Rattle.std.proofs.Common.{◌+◌, get_or, refl, ap, ◌∙◌, arith, take_all}
 use lib.ListN.{get_or-replicate}
 use Rattle.std.proofs.ByRecursion.{All-get_or}
 use Rattle.fixed_tables.specs.Tables.{rows_in}
@@ -9,7 +9,7 @@ use Rattle.book.specs.Rows.{plain_investee}
 use Rattle.book.specs.Shares.{no_kilograms}
 use Rattle.book.specs.Standings.{WithinBook}
 use Rattle.book.specs.View.{plain}
-use Rattle.book.proofs.Adding.{summed, summed-none, summed-more}
+use Rattle.book.proofs.Adding.{none-kilograms, summed, summed-none, summed-more}
 use Rattle.book.proofs.Sheets.{row_part, parts-sofar-within, sheet-rows}
 use Rattle.book.proofs.WithinBook.{rows-within}
 use Rattle.book.proofs.book.Book.all_sheets.Goals as goal
@@ -34,8 +34,8 @@ add_parts-requires g c =
 
 pub loop-row-init : goal.loop-row-init
 loop-row-init g c = (
-  ap length c.filled-sums.ensures,
-  λ n h. ap (λ l. get_or l n no_kilograms) c.filled-sums.ensures ∙ get_or-replicate branch_count n no_kilograms no_kilograms h ∙ summed-none _,
+  refl,
+  λ n h. get_or-replicate branch_count n c.default-sums.result no_kilograms h ∙ none-kilograms _ c.default-sums.ensures ∙ summed-none _,
 )
 
 pub loop-row-preserved : goal.loop-row-preserved

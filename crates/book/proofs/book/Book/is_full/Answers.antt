@@ -6,4 +6,4 @@ use Rattle.book.specs.Rows.{plain_investee}
 use Rattle.book.proofs.book.Book.is_full.Goals as goal
 
 pub returns : goal.returns
-returns g c = c.is_full.ensures ∙ ap (leb most_investees) (sym (length-map (rows_in c.args.self.now.investees) plain_investee))
+returns g c = c.full_of_investees.ensures ∙ ap (leb most_investees) (c.len.ensures ∙ sym (length-map (rows_in c.args.self.now.investees) plain_investee))

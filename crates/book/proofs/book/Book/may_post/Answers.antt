@@ -17,7 +17,8 @@ use Rattle.book.proofs.book.Book.may_post.Goals.{After-exposure}
 
 free : (g : given.Over) (c : After-exposure g) → is_posted c.args.entry.branch c.args.row.profile.id c.args.entry.month (plain c.args.self.now).positions ≡ false
 free g c =
-    sym (posted-alike c.args.entry.month (position_of c.args.entry.branch c.args.row.profile.id (plain c.args.self.now).positions))
+    ap (λ id. is_posted c.args.entry.branch id c.args.entry.month (plain c.args.self.now).positions) (sym c.from-id.ensures)
+    ∙ sym (posted-alike c.args.entry.month (position_of c.args.entry.branch c.from-id.result (plain c.args.self.now).positions))
     ∙ ap is_some (sym (c.balance.ensures ∙ cond-true (in_year c.args.entry.month) _ _ (entry-in-year (plain c.args.self.now) c.args.entry.branch c.args.entry.month c.args.entry.balance (plain_investee c.args.row) c.requires))) ∙ sym c.is_some.ensures ∙ c.if-is_some.false
 
 pub moved-exposure-requires : goal.moved-exposure-requires
@@ -43,4 +44,4 @@ returns g c =
     c.may_lend.ensures ∙ ap (λ s. failing (too_much_at t x s)) same
     ∙ ap failing
     (sym (cond-false (is_posted b (id_of x) m p.positions) _ _ is_free
-    ∙ cond-false (no_room_for b (id_of x) p.positions) _ _ (sym c.no_room_for.ensures ∙ c.if-no_room_for.false)))
+    ∙ cond-false (no_room_for b (id_of x) p.positions) _ _ (ap (λ id. no_room_for b id p.positions) (sym c.from-id.ensures) ∙ sym c.no_room_for.ensures ∙ c.if-no_room_for.false)))

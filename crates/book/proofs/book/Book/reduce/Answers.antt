@@ -1,4 +1,5 @@
 use Rattle.std.proofs.Common.{◌≡◌, None, sym, refl, ap, ◌∙◌}
+use Rattle.positions.proofs.Places.{lent-row}
 use Rattle.fixed_tables.specs.Tables.{rows_in}
 use Rattle.plain.specs.Changes.{reduced_by}
 use Rattle.plain.specs.PlainBook.{with_investees}
@@ -12,7 +13,7 @@ use Rattle.book.proofs.Outcomes.{after-accepted, answer-accepted, failed}
 use Rattle.book.proofs.Restating.{not-open, is-open, reread}
 use Rattle.book.proofs.book.Book.reduce.Given as given
 use Rattle.book.proofs.book.Book.reduce.Goals as goal
-use Rattle.book.proofs.book.Book.reduce.Goals.{After-set}
+use Rattle.book.proofs.book.Book.reduce.Goals.{After-reduced_by}
 
 pub returns-in_err-at : goal.returns-in_err-at
 returns-in_err-at g c =
@@ -34,30 +35,30 @@ returns-in_err-reading g c =
     let told = failed t p (reduce c.args.id m) f d _ c.from_residual-in_err-reading.ensures.1 in
     record { book = told.0; rule = refl {a = c.args.self.now.rule}; told = told.1 }
 
-accepted : (g : given.Over) (c : After-set g) → declined (g.R.Rule.tables c.args.self.now.rule.now) (plain c.args.self.now) (reduce c.args.id (g.S.Source.meaning c.args.source.now)) ≡ None
+accepted : (g : given.Over) (c : After-reduced_by g) → declined (g.R.Rule.tables c.args.self.now.rule.now) (plain c.args.self.now) (reduce c.args.id (g.S.Source.meaning c.args.source.now)) ≡ None
 accepted g c =
     let m = g.S.Source.meaning c.args.source.now in
     is-open (plain c.args.self.now) c.args.id c.in_ok-at.at (if_read m (λ r. None)) c.in_ok-at.ensures ∙ ap (λ n. if_read n (λ r. None)) (sym c.in_ok-reading.ensures)
 
 -- the book is that after the call
-is-after : (g : given.Over) (c : After-set g) → plain_rows (rows_in c.set.new.self) c.args.self.now.positions ≡ after (g.R.Rule.tables c.args.self.now.rule.now) (plain c.args.self.now) (reduce c.args.id (g.S.Source.meaning c.args.source.now))
+is-after : (g : given.Over) (c : After-reduced_by g) → plain_rows (rows_in (c.get_mut.follows.lender c.reduced_by.result)) c.args.self.now.positions ≡ after (g.R.Rule.tables c.args.self.now.rule.now) (plain c.args.self.now) (reduce c.args.id (g.S.Source.meaning c.args.source.now))
 is-after g c =
     let t = g.R.Rule.tables c.args.self.now.rule.now in
     let p = plain c.args.self.now in
     let m = g.S.Source.meaning c.args.source.now in
-    ap (λ xs. with_investees p xs) (ap plain_investees c.set.ensures ∙ reread (rows_in c.args.self.now.investees) c.args.id c.in_ok-at.at c.in_ok-at.ensures reduced_by m c.in_ok-reading.reading c.as_slice.result.now _ c.reduced_by.result (sym c.in_ok-reading.ensures) c.as_slice.ensures.rows c.reduced_by.ensures)
+    ap (λ xs. with_investees p xs) (ap plain_investees (lent-row _ _ c.in-Some.is (c.get_mut.follows.holds c.reduced_by.result)) ∙ reread (rows_in c.args.self.now.investees) c.args.id c.in_ok-at.at c.in_ok-at.ensures reduced_by m c.in_ok-reading.reading c.in-Some.row.now c.reduced_by.result (sym c.in_ok-reading.ensures) c.in-Some.ensures.row c.reduced_by.ensures)
     ∙ sym (after-accepted t p (reduce c.args.id m) (accepted g c))
 
 pub invariant_of-self : goal.invariant_of-self
 invariant_of-self g c =
     let book = c.args.self.now in
-    record { kept = kept-after (g.R.Rule.tables book.rule.now) (plain book) _ (reduce c.args.id (g.S.Source.meaning c.args.source.now)) (g.S.Source.within c.args.source.now) book.kept (is-after g (goal.at.invariant_of-self g c).After-set) }
+    record { kept = kept-after (g.R.Rule.tables book.rule.now) (plain book) _ (reduce c.args.id (g.S.Source.meaning c.args.source.now)) (g.S.Source.within c.args.source.now) book.kept (is-after g (goal.at.invariant_of-self g c).After-reduced_by) }
 
-pub returns : goal.returns
-returns g c =
+pub returns-in-Some : goal.returns-in-Some
+returns-in-Some g c =
     let t = g.R.Rule.tables c.args.self.now.rule.now in
     let p = plain c.args.self.now in
-    let a = (goal.at.returns g c).After-set in
+    let a = (goal.at.returns-in-Some g c).After-reduced_by in
     record {
       book = is-after g a;
       rule = refl {a = c.args.self.now.rule};

@@ -1,4 +1,5 @@
 use Rattle.std.proofs.Common.{◌≡◌, None, sym, refl, ap, ◌∙◌}
+use Rattle.positions.proofs.Places.{lent-row}
 use Rattle.fixed_tables.specs.Tables.{rows_in}
 use Rattle.plain.specs.Changes.{restated}
 use Rattle.plain.specs.PlainBook.{with_investees}
@@ -13,7 +14,7 @@ use Rattle.book.proofs.Openings.{emissions-err, emissions-ok}
 use Rattle.book.proofs.Restating.{not-open, is-open, reread}
 use Rattle.book.proofs.book.Book.restate.Given as given
 use Rattle.book.proofs.book.Book.restate.Goals as goal
-use Rattle.book.proofs.book.Book.restate.Goals.{After-set}
+use Rattle.book.proofs.book.Book.restate.Goals.{After-restated}
 
 pub returns-in_err-at : goal.returns-in_err-at
 returns-in_err-at g c =
@@ -35,30 +36,30 @@ returns-in_err-reading g c =
     let told = failed t p (restate c.args.id m) f d _ c.from_residual-in_err-reading.ensures.1 in
     record { book = told.0; rule = refl {a = c.args.self.now.rule}; told = told.1 }
 
-accepted : (g : given.Over) (c : After-set g) → declined (g.R.Rule.tables c.args.self.now.rule.now) (plain c.args.self.now) (restate c.args.id (g.S.Source.meaning c.args.source.now)) ≡ None
+accepted : (g : given.Over) (c : After-restated g) → declined (g.R.Rule.tables c.args.self.now.rule.now) (plain c.args.self.now) (restate c.args.id (g.S.Source.meaning c.args.source.now)) ≡ None
 accepted g c =
     let m = g.S.Source.meaning c.args.source.now in
     is-open (plain c.args.self.now) c.args.id c.in_ok-at.at (if_read m below_zero) c.in_ok-at.ensures ∙ (emissions-ok m c.in_ok-reading.reading c.in_ok-reading.ensures).1
 
 -- the book is that after the call
-is-after : (g : given.Over) (c : After-set g) → plain_rows (rows_in c.set.new.self) c.args.self.now.positions ≡ after (g.R.Rule.tables c.args.self.now.rule.now) (plain c.args.self.now) (restate c.args.id (g.S.Source.meaning c.args.source.now))
+is-after : (g : given.Over) (c : After-restated g) → plain_rows (rows_in (c.get_mut.follows.lender c.restated.result)) c.args.self.now.positions ≡ after (g.R.Rule.tables c.args.self.now.rule.now) (plain c.args.self.now) (restate c.args.id (g.S.Source.meaning c.args.source.now))
 is-after g c =
     let t = g.R.Rule.tables c.args.self.now.rule.now in
     let p = plain c.args.self.now in
     let m = g.S.Source.meaning c.args.source.now in
-    ap (λ xs. with_investees p xs) (ap plain_investees c.set.ensures ∙ reread (rows_in c.args.self.now.investees) c.args.id c.in_ok-at.at c.in_ok-at.ensures restated m c.in_ok-reading.reading c.as_slice.result.now _ c.restated.result (emissions-ok m c.in_ok-reading.reading c.in_ok-reading.ensures).0 c.as_slice.ensures.rows c.restated.ensures)
+    ap (λ xs. with_investees p xs) (ap plain_investees (lent-row _ _ c.in-Some.is (c.get_mut.follows.holds c.restated.result)) ∙ reread (rows_in c.args.self.now.investees) c.args.id c.in_ok-at.at c.in_ok-at.ensures restated m c.in_ok-reading.reading c.in-Some.row.now c.restated.result (emissions-ok m c.in_ok-reading.reading c.in_ok-reading.ensures).0 c.in-Some.ensures.row c.restated.ensures)
     ∙ sym (after-accepted t p (restate c.args.id m) (accepted g c))
 
 pub invariant_of-self : goal.invariant_of-self
 invariant_of-self g c =
     let book = c.args.self.now in
-    record { kept = kept-after (g.R.Rule.tables book.rule.now) (plain book) _ (restate c.args.id (g.S.Source.meaning c.args.source.now)) (g.S.Source.within c.args.source.now) book.kept (is-after g (goal.at.invariant_of-self g c).After-set) }
+    record { kept = kept-after (g.R.Rule.tables book.rule.now) (plain book) _ (restate c.args.id (g.S.Source.meaning c.args.source.now)) (g.S.Source.within c.args.source.now) book.kept (is-after g (goal.at.invariant_of-self g c).After-restated) }
 
-pub returns : goal.returns
-returns g c =
+pub returns-in-Some : goal.returns-in-Some
+returns-in-Some g c =
     let t = g.R.Rule.tables c.args.self.now.rule.now in
     let p = plain c.args.self.now in
-    let a = (goal.at.returns g c).After-set in
+    let a = (goal.at.returns-in-Some g c).After-restated in
     record {
       book = is-after g a;
       rule = refl {a = c.args.self.now.rule};

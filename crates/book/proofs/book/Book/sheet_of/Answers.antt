@@ -6,13 +6,13 @@ use Rattle.positions.specs.View.{positions_in}
 use Rattle.book.specs.Rows.{plain_investee}
 use Rattle.book.specs.Standings.{WithinBook}
 use Rattle.book.specs.View.{plain}
-use Rattle.book.proofs.Adding.{summed, summed-none, summed-more}
+use Rattle.book.proofs.Adding.{none-kilograms, summed, summed-none, summed-more}
 use Rattle.book.proofs.Sheets.{row_part, parts-sofar-within, next-part-within, sheet-rows}
 use Rattle.book.proofs.WithinBook.{rows-within}
 use Rattle.book.proofs.book.Book.sheet_of.Goals as goal
 
 pub loop-row-init : goal.loop-row-init
-loop-row-init g c = summed-none _
+loop-row-init g c = none-kilograms _ c.default-sum.ensures ∙ summed-none _
 
 pub invariant_of-part : goal.invariant_of-part
 invariant_of-part g c =

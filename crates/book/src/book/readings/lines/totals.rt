@@ -1,20 +1,20 @@
 // The book total.
-ghost use Rattle.std.specs.Prelude.{◌≡◌, map, length, take};
+ghost use Rattle.std.specs.Prelude.{◌≡◌, map, length, slice_index_or, take};
 ghost use Rattle.fixed_tables.specs.Tables.{rows_in};
 ghost use Rattle.plain.specs.declared.answers.Answer.TheVariants.{Book as BookAnswer};
 ghost use Rattle.plain.specs.Runs.{answer};
 ghost use Rattle.plain.specs.Steps.{ask_book_total};
-ghost use Rattle.book.specs.Lines.{line_of};
+ghost use Rattle.book.specs.Lines.{line_of, no_line};
 ghost use Rattle.book.specs.Rows.{plain_investee};
 ghost use Rattle.book.specs.View.{plain};
 
 use crate::book::Book;
-use crate::book::readings::lines::{Line, Lines, NO_LINE, is_project};
+use crate::book::readings::lines::{Line, Lines, is_project};
 use crate::book::readings::{Held, whole_shares};
-use crate::filled::filled;
 use plain::answers::BookTotal;
 use plain::limits::MOST_INVESTEES;
 use rules::rule::Rule;
+use std::array;
 
 impl<'b, 'r, R: Rule> Held<'b, 'r, R> {
     // What it adds to the book's totals.
@@ -29,22 +29,27 @@ impl<'b, 'r, R: Rule> Held<'b, 'r, R> {
             counted: standing.is_counted(),
             reduced: self.row.reduction.is_some(),
             exposure: standing.exposure,
-            grade: self.row.grade,
+            grade: self.row.reading.grade,
         }
     }
 }
 
 impl<'r, R: Rule> Book<'r, R> {
+    // The line of the investee at a place in the order of the openings; an empty one after the last.
+    fn line_at(&self, place: usize) -> Line
+        ensures { result ≡ slice_index_or (map (line_of (R.tables self.now.rule.now) (plain self.now)) (plain self.now).investees) place no_line }
+    {
+        let Some(&row) = self.investees.as_slice().get(place) else {
+            return Line::default();
+        };
+        Held { book: self, row }.line()
+    }
+
     // The lines of all investees, in the order of their openings. The rest of the table stays empty.
     fn lines(&self) -> [Line; MOST_INVESTEES]
         ensures { take (length (rows_in self.now.investees)) result ≡ map (line_of (R.tables self.now.rule.now) (plain self.now)) (plain self.now).investees }
     {
-        let mut lines = filled(NO_LINE);
-        // By index: of what is written through an adapter of `iter_mut` a proof knows nothing.
-        for (k, &row) in self.investees.as_slice().iter().enumerate() {
-            lines[k] = Held { book: self, row }.line();
-        }
-        lines
+        array::from_fn(|place| self.line_at(place))
     }
 
     // What falls to all branches for all investees: for projects, for the rest and for all, with the shares of the

@@ -1,12 +1,12 @@
 use Rattle.std.proofs.Common.{ap, ◌∙◌, take_all}
 use Rattle.plain.specs.Limits.{most_investees}
 use Rattle.book.specs.Lines.{sums_of}
-use Rattle.book.proofs.Adding.{sums_none, sums-sofar-within, next-within, sums-more}
+use Rattle.book.proofs.Adding.{none-sums, sums_none, sums-sofar-within, next-within, sums-more}
 use Rattle.book.proofs.Propositions.{lines_of}
 use Rattle.book.proofs.book.readings.lines.Lines.sums.Goals as goal
 
 pub loop-line-init : goal.loop-line-init
-loop-line-init c = c.none-sums.ensures ∙ sums_none c.args.group
+loop-line-init c = none-sums _ c.default-sums.ensures ∙ sums_none c.args.group
 
 pub plus-sums-requires : goal.plus-sums-requires
 plus-sums-requires c =
