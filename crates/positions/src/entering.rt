@@ -1,4 +1,4 @@
-// Finding positions, and entering their balances.
+// Finding positions, and entering their balances, by the numbers that the plain book's changes are told by.
 ghost use Rattle.std.specs.Prelude.{◌≡◌, [], ◌∷◌, ◌++◌, length, IfOk, is_ok, if◌then◌else◌, None, not, nat_le};
 ghost use Rattle.plain.specs.Changes.{amended, posted};
 ghost use Rattle.plain.specs.Limits.{most_positions};

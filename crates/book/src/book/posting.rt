@@ -133,7 +133,8 @@ impl<'r, R: Rule> Book<'r, R> {
         may_lend(self.rule, row, exposure)
     }
 
-    // Enters the balance of a month that has none. The first post of a branch for an investee makes its position.
+    // Enters the balance of a month that has none. The first post of a branch for an investee makes its position. A post and
+    // an amendment are asked by four numbers, since the plain book's steps are.
     pub fn post(&mut self, branch: u64, id: u64, month: u64, balance: u64) -> Result<(), Fault>
         ensures book { plain self.new ≡ after (R.tables self.old.rule.now) (plain self.old) (post branch id month balance) }
         ensures rule { self.new.rule ≡ self.old.rule }
