@@ -25,7 +25,7 @@ use Rattle.book.specs.declared.book.readings.Standing.{Standing}
 -- a turn that was found is the branch's
 turn-found : (s : ℕ) (ls : List Lent) (b : ℕ) (turn : Turn) → turn_from s ls b ≡ Some turn → turn ≡ record { before = s + exposure_before ls b; exposure = exposure_at ls b }
 unfolding turn_from exposure_before exposure_at
-turn-found s [] b turn e = let z : ◌≡◌ {A = ℕ} 0 1 = cc in absurd (omega arith)
+turn-found s [] b turn e = absurd cc
 turn-found s (l ∷ ls) b turn e = by (eqb l.branch b) (turn-found (s + l.exposure) ls b turn) e
   where
     by : (t : Bool) → (turn_from (s + l.exposure) ls b ≡ Some turn → turn ≡ record { before = (s + l.exposure) + exposure_before ls b; exposure = exposure_at ls b }) → cond t (Some (record { before = s; exposure = l.exposure })) (turn_from (s + l.exposure) ls b) ≡ Some turn
@@ -45,7 +45,7 @@ none_lent s [] b e = refl
 none_lent s (l ∷ ls) b e = by (eqb l.branch b) (none_lent (s + l.exposure) ls b) e
   where
     by : (t : Bool) → (turn_from (s + l.exposure) ls b ≡ None → exposure_at ls b ≡ 0) → cond t (Some (record { before = s; exposure = l.exposure })) (turn_from (s + l.exposure) ls b) ≡ None → cond t l.exposure (exposure_at ls b) ≡ 0
-    by true later e = let z : ◌≡◌ {A = ℕ} 0 1 = cc in absurd (omega arith)
+    by true later e = absurd cc
     by false later e = later e
 
 pub turn_is : (kind : Kind) (id b : ℕ) (qs : List PlainPosition) (turn : Turn) → turn_from 0 (lent_on kind id qs) b ≡ Some turn → turn ≡ turn_of kind id b qs

@@ -83,7 +83,7 @@ module _ (kind : Kind) (b id m v : ℕ) (low : 1 ≤ m) (high : m ≤ months) (c
 
       unposted : (o : Option ℕ) → is_some o ≡ false → unwrap_or o 0 ≡ 0
       unposted None e = refl
-      unposted (Some n) e = let z : ◌≡◌ {A = ℕ} 0 1 = cc in absurd (omega arith)
+      unposted (Some n) e = absurd cc
 
       by : (o : Option PlainPosition) → position_of b id qs ≡ o → posted_in m o ≡ false
           → exposures (map (lent_by kind) (positions_on id (posted b id m v qs))) ≡ exposures (map (lent_by kind) (positions_on id qs)) + counted kind v

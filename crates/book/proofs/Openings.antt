@@ -1,5 +1,5 @@
 -- An opening, from its two halves.
-use Rattle.std.proofs.Common.{◌≡◌, ℕ, ◌<◌, Bool, true, false, cond, leb, List, [], ◌∷◌, ◌++◌, length, pos, Some, None, Ok, Err, Option, Result, sym, refl, ap, ◌∙◌, ap₂, arith}
+use Rattle.std.proofs.Common.{◌≡◌, ◌<◌, Bool, true, false, cond, leb, List, [], ◌∷◌, ◌++◌, length, pos, Some, None, Ok, Err, Option, Result, sym, refl, ap, ◌∙◌, ap₂}
 use lib.Signed.{lt_z}
 use Rattle.std.proofs.lemmas.List.{map_push}
 use Rattle.std.proofs.lemmas.Bool.{leb-false}
@@ -34,14 +34,14 @@ emissions-err (Ok r) f h = by (lt_z r.kilograms (pos 0)) h
   where
     by : (t : Bool) → Err f ≡ cond t (Err (fault ReadingBelowZero 0 0)) (Ok r) → refuse t ReadingBelowZero None ≡ Some f
     by true h = let same : fault ReadingBelowZero 0 0 ≡ f = cc in ap Some same
-    by false h = let z : ◌≡◌ {A = ℕ} 0 1 = cc in absurd (omega arith)
+    by false h = absurd cc
 
 pub emissions-ok : (m : Meaning) (x : Reading) → Ok x ≡ emissions_in m → (m ≡ Ok x) × (if_read m below_zero ≡ None)
-emissions-ok (Err e) x h = let z : ◌≡◌ {A = ℕ} 0 1 = cc in absurd (omega arith)
+emissions-ok (Err e) x h = absurd cc
 emissions-ok (Ok r) x h = by (lt_z r.kilograms (pos 0)) h
   where
     by : (t : Bool) → Ok x ≡ cond t (Err (fault ReadingBelowZero 0 0)) (Ok r) → (◌≡◌ {A = Meaning} (Ok r) (Ok x)) × (refuse t ReadingBelowZero None ≡ None)
-    by true h = let z : ◌≡◌ {A = ℕ} 0 1 = cc in absurd (omega arith)
+    by true h = absurd cc
     by false h = (sym h, refl)
 
 -- ---- the halves
@@ -77,15 +77,15 @@ module _ (t : Tables) (p : PlainBook) (fields : InvesteeFields) (m : Meaning) wh
     where
       based : (y : Profile) (b : Result Base Refusal) → Ok x ≡ based_on b y → ◌≡◌ {A = Result Profile Fault} (Ok y) (Ok x)
       based y (Ok b) e = sym e
-      based y (Err f) e = let z : ◌≡◌ {A = ℕ} 0 1 = cc in absurd (omega arith)
+      based y (Err f) e = absurd cc
 
       tests : (y : Profile) (is_here full : Bool) → Ok x ≡ cond is_here (Err (fault AlreadyOpen 0 0)) (cond full (Err (fault InvesteesFull 0 0)) (based_on (t.bases y.kind y.figures) y)) → ◌≡◌ {A = Result Profile Fault} (Ok y) (Ok x)
-      tests y true full e = let z : ◌≡◌ {A = ℕ} 0 1 = cc in absurd (omega arith)
-      tests y false true e = let z : ◌≡◌ {A = ℕ} 0 1 = cc in absurd (omega arith)
+      tests y true full e = absurd cc
+      tests y false true e = absurd cc
       tests y false false e = based y (t.bases y.kind y.figures) e
 
       at : (o : Result Profile Fault) → Ok x ≡ taken_as t p o → o ≡ Ok x
-      at (Err f) e = let z : ◌≡◌ {A = ℕ} 0 1 = cc in absurd (omega arith)
+      at (Err f) e = absurd cc
       at (Ok y) e = tests y (is_open y.id p) (leb most_investees (length p.investees)) e
 
   pub not_taken : (f : Fault) → Err f ≡ taken_by t p fields → declined t p (enter fields m) ≡ Some f

@@ -54,18 +54,18 @@ module _ (p : PlainBook) (b id m v : ℕ) where
       found_as y e = eqb-true (id_of y) id (first_passes (has_id id) p.investees y e)
 
       bond : (y : PlainInvestee) (outside : Bool) → bond_outside_closing y m ≡ outside → entry_out_of_range b m v ≡ false → investee_of id p ≡ Some y → Ok x ≡ cond outside (Err (fault BondOutsideClosingMonth 0 0)) (Ok y) → EntryFor p b m v x × (id_of x ≡ id)
-      bond y true c r f e = let z : ◌≡◌ {A = ℕ} 0 1 = cc in absurd (omega arith)
+      bond y true c r f e = absurd cc
       bond y false c r f e =
           let same : y ≡ x = cc in
           let entry : EntryFor p b m v y × (id_of y ≡ id) = (record { in_range = r; found = ap (λ j. investee_of j p) (found_as y f) ∙ f; in_closing_month = c }, found_as y f) in
           subst (λ (z : PlainInvestee). EntryFor p b m v z × (id_of z ≡ id)) same entry
 
       on : (o : Option PlainInvestee) → investee_of id p ≡ o → entry_out_of_range b m v ≡ false → Ok x ≡ entry_on o m → EntryFor p b m v x × (id_of x ≡ id)
-      on None f r e = let z : ◌≡◌ {A = ℕ} 0 1 = cc in absurd (omega arith)
+      on None f r e = absurd cc
       on (Some y) f r e = bond y (bond_outside_closing y m) refl r f e
 
       range : (out : Bool) → entry_out_of_range b m v ≡ out → Ok x ≡ cond out (Err (fault EntryOutOfRange 0 0)) (entry_on (investee_of id p) m) → EntryFor p b m v x × (id_of x ≡ id)
-      range true r e = let z : ◌≡◌ {A = ℕ} 0 1 = cc in absurd (omega arith)
+      range true r e = absurd cc
       range false r e = on (investee_of id p) refl r e
 
   -- ---- the calls
@@ -106,19 +106,19 @@ module _ (p : PlainBook) (b m v : ℕ) (x : PlainInvestee) (entry : EntryFor p b
   entry-enters t e = and_from (in_year m) (not (no_room_for b (id_of x) p.positions)) entry-in-year (by (is_posted b (id_of x) m p.positions) (no_room_for b (id_of x) p.positions) e)
     where
       by : (taken full : Bool) → refuse taken MonthAlreadyPosted (refuse full PositionsFull (too_much_lent t x (posted b (id_of x) m v p.positions))) ≡ None → not full ≡ true
-      by true full e = let z : ◌≡◌ {A = ℕ} 0 1 = cc in absurd (omega arith)
-      by false true e = let z : ◌≡◌ {A = ℕ} 0 1 = cc in absurd (omega arith)
+      by true full e = absurd cc
+      by false true e = absurd cc
       by false false e = refl
 
 -- ---- what a test that may fail says
 
 pub refused : (o : Option Fault) (f : Fault) → Err f ≡ failing o → o ≡ Some f
-refused None f e = let z : ◌≡◌ {A = ℕ} 0 1 = cc in absurd (omega arith)
+refused None f e = absurd cc
 refused (Some g) f e = let same : f ≡ g = cc in ap Some (sym same)
 
 pub allowed : (o : Option Fault) → Ok tt ≡ failing o → o ≡ None
 allowed None e = refl
-allowed (Some g) e = let z : ◌≡◌ {A = ℕ} 0 1 = cc in absurd (omega arith)
+allowed (Some g) e = absurd cc
 
 -- ---- the book after the call
 
@@ -155,7 +155,7 @@ module _ (p : PlainBook) (ok : KeptByEveryRun p) (b m v : ℕ) (x : PlainInveste
   exposure-amended old e = by (position_of b (id_of x) p.positions) refl e
     where
       by : (o : Option PlainPosition) → position_of b (id_of x) p.positions ≡ o → Some old ≡ balance_in m o → exposure_to x (amended b (id_of x) m v p.positions) + counted x.profile.kind old ≡ exposure_to x p.positions + counted x.profile.kind v
-      by None f e = let z : ◌≡◌ {A = ℕ} 0 1 = cc in absurd (omega arith)
+      by None f e = absurd cc
       by (Some q) f e =
           let moved = lent-amended x.profile.kind b (id_of x) m v entry-range.month-from entry-range.month-to entry.in_closing_month p.positions q f (first-all _ _ p.positions q f ok.positions_in_range).a_place_for_each_month in
           let was = ap (λ o. counted x.profile.kind (unwrap_or o 0)) e in

@@ -1,5 +1,5 @@
 -- Restatements and reductions: the place of the investee, and its row written over.
-use Rattle.std.proofs.Common.{◌≡◌, ℕ, ◌<◌, true, List, length, get_or, set, is_some, Some, None, Ok, Err, ok_or, Option, position, sym, refl, ap, ◌∙◌, arith}
+use Rattle.std.proofs.Common.{◌≡◌, ℕ, ◌<◌, true, List, length, get_or, set, is_some, Some, None, Ok, Err, ok_or, Option, position, sym, refl, ap, ◌∙◌}
 use Rattle.faults.specs.Refusals.{fault}
 use Rattle.faults.specs.declared.Fault.{Fault}
 use Rattle.faults.specs.declared.Refusal.TheVariants.{NotOpen}
@@ -18,10 +18,10 @@ use Rattle.positions.proofs.Places.{first-nowhere, found_alike, row_within, writ
 -- what an answer that is no fault was made of
 pub some-from : {X E : Type 0} (o : Option X) (e : E) (x : X) → Ok x ≡ ok_or o e → Some x ≡ o
 some-from (Some y) e x is = let same : x ≡ y = cc in ap Some same
-some-from None e x is = let z : ◌≡◌ {A = ℕ} 0 1 = cc in absurd (omega arith)
+some-from None e x is = absurd cc
 
 open_none : (o : Option ℕ) (f : Fault) → Err f ≡ ok_or o (fault NotOpen 0 0) → (None ≡ o) × (fault NotOpen 0 0 ≡ f)
-open_none (Some j) f e = let z : ◌≡◌ {A = ℕ} 0 1 = cc in absurd (omega arith)
+open_none (Some j) f e = absurd cc
 open_none None f e = (refl, let same : fault NotOpen 0 0 ≡ f = cc in same)
 
 module _ (p : PlainBook) (id : ℕ) where
@@ -37,7 +37,7 @@ module _ (p : PlainBook) (id : ℕ) where
       (sym (found_alike (has_id id) p.investees) ∙ ap is_some (sym (some-from (position (has_id id) p.investees) _ k e)))
     where
       by : (o : Option PlainInvestee) → is_some o ≡ true → if_open o (λ x. rest) ≡ rest
-      by None h = let z : ◌≡◌ {A = ℕ} 0 1 = cc in absurd (omega arith)
+      by None h = absurd cc
       by (Some x) h = refl
 
 -- ---- the row

@@ -71,7 +71,7 @@ within-book p kept id x e =
     }
   where
     ok_of_ok_or : (o : Option PlainInvestee) (f : Fault) (x : PlainInvestee) → Ok x ≡ ok_or o f → o ≡ Some x
-    ok_of_ok_or None f x e = let z : ◌≡◌ {A = ℕ} 0 1 = cc in absurd (omega arith)
+    ok_of_ok_or None f x e = absurd cc
     ok_of_ok_or (Some y) f x e = let same : x ≡ y = cc in ap Some (sym same)
 
 -- ---- each investee of a book

@@ -24,16 +24,14 @@ module _ {X : Type 0} (test : X → Bool) (xs : List X) where
       let same : k ≡ place_of test xs = cc in
       (same, omega arith))
       (λ h. let is : Some k ≡ None = e ∙ sym (no_place h) in
-      let z : ◌≡◌ {A = ℕ} 0 1 = cc in
-      absurd (omega arith))
+      absurd cc)
       (cases_lt (place_of test xs) (length xs))
 
   pub place-of-none : None ≡ first_place test xs → length xs ≤ place_of test xs
   place-of-none e =
       ⊎_elim
       (λ h. let is : None ≡ Some (place_of test xs) = e ∙ cond-true (ltb (place_of test xs) (length xs)) (Some (place_of test xs)) None (lt-ltb (place_of test xs) (length xs) h) in
-      let z : ◌≡◌ {A = ℕ} 0 1 = cc in
-      absurd (omega arith))
+      absurd cc)
       (λ h. h)
       (cases_lt (place_of test xs) (length xs))
 

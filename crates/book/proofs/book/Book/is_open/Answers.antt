@@ -5,7 +5,7 @@ use Rattle.std.proofs.lemmas.Iterator.Search.{any_from_yields_List}
 use Rattle.fixed_tables.specs.Tables.{rows_in}
 use Rattle.plain.specs.PlainBook.{has_id}
 use Rattle.book.specs.Rows.{plain_investee}
-use Rattle.book.proofs.Finding.{any-view}
+use Rattle.positions.proofs.Views.{any-view}
 use Rattle.book.proofs.book.Book.is_open.Goals as goal
 
 pub returns : goal.returns

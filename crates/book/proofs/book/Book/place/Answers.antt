@@ -4,7 +4,7 @@ use Rattle.std.proofs.lemmas.Iterator.Search.{position_from_yields_List}
 use Rattle.fixed_tables.specs.Tables.{rows_in}
 use Rattle.plain.specs.PlainBook.{has_id}
 use Rattle.book.specs.Rows.{plain_investee}
-use Rattle.book.proofs.Finding.{position-view}
+use Rattle.positions.proofs.Views.{position-view}
 use Rattle.book.proofs.book.Book.place.Goals as goal
 
 pub returns : goal.returns
