@@ -59,12 +59,15 @@ free-by-index : (sep : ℕ) (f : List ℕ) → ((i : ℕ) → i < length f → g
 free-by-index sep [] h = tt
 free-by-index sep (b ∷ f) h = (λ e. h 0 (omega arith) e, free-by-index sep f (λ i lt e. h (suc i) (omega arith) e))
 
-pub decimal-free : (n : ℕ) → n < 2 ^ 64 → Free 32 (decimal n)
-decimal-free n fits = free-by-index 32 (decimal n) (not_in_digits digits (decimal n) 32 (digits_decimal digits n fits) (λ h. omega arith))
+-- a byte below the digits
+decimal-free : (sep n : ℕ) → sep < 48 → n < 10 ^ 13 → Free sep (decimal n)
+decimal-free sep n below small =
+    let fits : n < 2 ^ 64 = omega arith in
+    free-by-index sep (decimal n) (not_in_digits digits (decimal n) sep (digits_decimal digits n fits) (λ h. omega arith))
 
-decimals-free : (ns : List ℕ) → AllByRecursion (λ n. n < 10 ^ 13) ns → AllByRecursion (Free 32) (map decimal ns)
-decimals-free [] small = tt
-decimals-free (n ∷ ns) small = (decimal-free n (omega (arith, small.0)), decimals-free ns small.1)
+pub decimals-free : (sep : ℕ) (ns : List ℕ) → sep < 48 → AllByRecursion (λ n. n < 10 ^ 13) ns → AllByRecursion (Free sep) (map decimal ns)
+decimals-free sep [] below small = tt
+decimals-free sep (n ∷ ns) below small = (decimal-free sep n below small.0, decimals-free sep ns below small.1)
 
 -- the numbers of fields, both ways
 read-printed : (p : ℕ) (ns : List ℕ) → AllByRecursion (λ n. n < 10 ^ 13) ns → numbers_of (length ns) p (map decimal ns) ≡ Ok (ns, [])
@@ -116,7 +119,7 @@ line_read k bs ns h =
 
 split-printed : (ns : List ℕ) → 0 < length ns → AllByRecursion (λ n. n < 10 ^ 13) ns → pieces 32 (printed ns) ≡ map decimal ns
 split-printed [] some small = absurd (omega arith)
-split-printed (n ∷ ns) some small = pieces-join 32 (decimal n) (map decimal ns) (decimals-free (n ∷ ns) small)
+split-printed (n ∷ ns) some small = pieces-join 32 (decimal n) (map decimal ns) (decimals-free 32 (n ∷ ns) (omega arith) small)
 
 pub line-printed : (k : ℕ) (bs ns : List ℕ) → 0 < k → LineOfNumbers k ns bs → line_of k bs ≡ Ok ns
 line-printed k bs ns some line =

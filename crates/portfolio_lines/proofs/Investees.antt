@@ -7,13 +7,13 @@ use Rattle.factors.specs.declared.Activity.{Activity}
 use Rattle.entries.specs.Entries.{PlainMethod, PlainEntry, report, bill, sector_mean}
 use Rattle.lines.specs.Fields.{pieces}
 use Rattle.lines.specs.Render.{join}
-use Rattle.lines.proofs.Printed.{Free, join-pieces}
+use Rattle.lines.proofs.Printed.{Free, decimals-free, join-pieces}
 use Rattle.portfolio_lines.specs.declared.misread.Misread.TheVariants.{Field}
 use Rattle.portfolio_lines.specs.Counted.{FieldsLeft, Reading, and_then, fields_of, numbers_in, letter_at, letter_in}
 use Rattle.portfolio_lines.specs.Lines.{entry_of, entry_in, investee_of}
 use Rattle.portfolio_lines.specs.Methods.{report_in, mean_in, bill_in, term_of, terms_in, in_front, method_by, method_in}
 use Rattle.portfolio_lines.specs.Text.{ThirteenDigits, head_numbers, letter_of, term_numbers, method_numbers, investee_fields, investee_line, IsInvesteeLine}
-use Rattle.portfolio_lines.proofs.Spelled.{Written, numbers-read, numbers-gives, decimals-free, all_append, join_free}
+use Rattle.portfolio_lines.proofs.Spelled.{Written, numbers-read, numbers-gives, all_append, join_free}
 use Rattle.portfolio_lines.proofs.Texts.{then_ok, then-gives, whole-ok, whole-gives, at, at_all, split}
 
 written-more : (ns ms : List ℕ) (fs gs hs : List (List ℕ)) → Written ns fs gs → Written ms gs hs → Written (ns ++ ms) fs hs

@@ -1,12 +1,10 @@
 -- Number fields: what is read is what is written.
-use Rattle.std.proofs.Common.{◌≡◌, ℕ, zero, suc, ◌+◌, ◌^◌, ◌<◌, List, [], ◌∷◌, ◌++◌, map, length, get_or, Some, None, Ok, Err, decimal, Option, Result, sym, refl, ap, ◌∙◌, subst, arith}
+use Rattle.std.proofs.Common.{◌≡◌, ℕ, zero, suc, ◌+◌, List, [], ◌∷◌, ◌++◌, map, length, Some, None, Ok, Err, decimal, Option, Result, sym, refl, ap, ◌∙◌, subst, arith}
 use Rattle.std.specs.List.{AllByRecursion}
-use Rattle.std.proofs.lemmas.Fmt.{digits_decimal}
-use Rattle.std.proofs.lemmas.Str.Parse.{not_in_digits}
 use Rattle.lines.specs.Fields.{numbers_of, first}
 use Rattle.lines.specs.Numerals.{number_of}
 use Rattle.lines.specs.Render.{join}
-use Rattle.lines.proofs.Numbers.{digits, spells-from-number, number-from-spells}
+use Rattle.lines.proofs.Numbers.{spells-from-number, number-from-spells}
 use Rattle.lines.proofs.Printed.{Free}
 use Rattle.portfolio_lines.specs.Counted.{FieldsLeft, counted, numbers_in}
 use Rattle.portfolio_lines.specs.Text.{ThirteenDigits}
@@ -50,20 +48,6 @@ numbers-gives k p fs ns gs count w =
     ap (counted (p + k)) ((λ t. numbers_of (sym count t) p (w.spelled t)) ∙ written-numbers p ns gs w.small)
 
 -- ---- bytes that stand in no field
-
-free-by-index : (sep : ℕ) (f : List ℕ) → ((i : ℕ) → i < length f → get_or f i 0 ≡ sep → ⊥) → Free sep f
-free-by-index sep [] h = tt
-free-by-index sep (b ∷ f) h = (λ e. h 0 (omega arith) e, free-by-index sep f (λ i lt e. h (suc i) (omega arith) e))
-
--- a byte below the digits
-pub decimal-free : (sep n : ℕ) → sep < 48 → n < 10 ^ 13 → Free sep (decimal n)
-decimal-free sep n below small =
-    let fits : n < 2 ^ 64 = omega arith in
-    free-by-index sep (decimal n) (not_in_digits digits (decimal n) sep (digits_decimal digits n fits) (λ h. omega arith))
-
-pub decimals-free : (sep : ℕ) (ns : List ℕ) → sep < 48 → ThirteenDigits ns → AllByRecursion (Free sep) (map decimal ns)
-decimals-free sep [] below small = tt
-decimals-free sep (n ∷ ns) below small = (decimal-free sep n below small.0, decimals-free sep ns below small.1)
 
 pub all_append : {X : Type 0} (P : X → Type 0) (xs ys : List X) → AllByRecursion P xs → AllByRecursion P ys → AllByRecursion P (xs ++ ys)
 all_append P [] ys a b = b

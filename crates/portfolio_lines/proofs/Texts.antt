@@ -4,14 +4,14 @@ use Rattle.std.specs.List.{AllByRecursion}
 use Rattle.std.proofs.lemmas.Bool.{cases_lt, lt-ltb, le-ltb, cond-true, cond-false}
 use Rattle.lines.specs.Fields.{pieces}
 use Rattle.lines.specs.Render.{join, printed, LineOfNumbers}
-use Rattle.lines.proofs.Printed.{Free, join-pieces, pieces-join}
+use Rattle.lines.proofs.Printed.{Free, decimals-free, join-pieces, pieces-join}
 use Rattle.portfolio_lines.specs.Counted.{FieldsLeft, Reading, and_then, fields_of, numbers_in, none_at, none_left}
 use Rattle.portfolio_lines.specs.Lines.{whole_line, number_line, key_from, key_of, balance_of}
 use Rattle.portfolio_lines.specs.Text.{ThirteenDigits, key_numbers, ReadsKeys, ReadsBalances}
 use Rattle.portfolio_lines.specs.declared.misread.Misread.{Misread}
 use Rattle.portfolio_lines.specs.declared.misread.Misread.TheVariants.{TooLong}
 use Rattle.portfolio_lines.specs.declared.posts.Key.{Key}
-use Rattle.portfolio_lines.proofs.Spelled.{Written, numbers-read, numbers-gives, decimals-free, join_free}
+use Rattle.portfolio_lines.proofs.Spelled.{Written, numbers-read, numbers-gives, join_free}
 
 -- ---- one reading after another
 
