@@ -21,6 +21,7 @@ fn value(field: &[u8]) -> Option<u64>
     ensures { result ≡ value_of field.now }
 {
     let mut n: u64 = 0;
+    // A `for` and no `try_fold`: the bound on the number so far is the loop's invariant; a closure knows none.
     for b in field {
         if !b.is_ascii_digit() {
             return None;

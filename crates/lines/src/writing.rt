@@ -5,8 +5,9 @@ ghost use Rattle.lines.specs.Writing.{Wrote};
 
 use itoa::{Buffer, Integer};
 
-// A buffer, and the place where the next text goes, over what stands there. A `put` that does not fit answers nothing
-// and changes nothing.
+// A buffer, and the place where the next text goes, over what stands there. A `put` that does not fit answers None and
+// changes nothing.
+// No io::Write: a text that does not fit is not written in part, and contracts tell the place after each `put`.
 #[derive(Drop)]
 pub struct Writer<'a> {
     pub buffer: &'a mut [u8],
@@ -32,6 +33,7 @@ impl Writer<'_> {
     {
         let buffer = &mut *self.buffer;
         let end = self.at.checked_add(text.len())?;
+        // A test and no `get_mut`: after it a proof knows nothing of the slice's elements.
         if end > buffer.len() {
             return None;
         }
