@@ -35,7 +35,7 @@ impl Iterator for Investees<'_> {
 
     // The next investee in the order of the file; nothing after the last.
     fn next(&mut self) -> Option<InvesteeEntry> {
-        self.lines.next_read(read_investee)
+        self.lines.read_next(read_investee)
     }
 }
 
@@ -67,8 +67,8 @@ impl Iterator for Posts<'_> {
 
     // The next post in the order of the file; nothing after the last.
     fn next(&mut self) -> Option<PostEntry> {
-        let Key { branch, id, month } = self.keys.next_read(read_key)?;
-        let balance = self.balances.next_read(read_balance)?;
+        let Key { branch, id, month } = self.keys.read_next(read_key)?;
+        let balance = self.balances.read_next(read_balance)?;
         Some(PostEntry {
             branch,
             id,

@@ -27,7 +27,7 @@ pub struct Section<'a> {
 
 impl Section<'_> {
     // What the next line reads as; nothing after the last, and from the first on that does not read.
-    pub fn next_read<T, F: Fn(&[u8]) -> Result<T, Misread>>(&mut self, read: F) -> Option<T>
+    pub fn read_next<T, F: Fn(&[u8]) -> Result<T, Misread>>(&mut self, read: F) -> Option<T>
         requires { F.IsAlwaysCallable read }
         ensures { NextRead F.Fn read (lines_left self.old) result (lines_left self.new) }
     {
