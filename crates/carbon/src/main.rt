@@ -13,8 +13,6 @@ fn main(rt: HostRuntime) -> io::Result<()> {
         .take(MOST_BYTES as u64 + 1)
         .read_to_end(&mut bytes)?;
     let mut buffer = [0; ROOM];
-    if let Ok(length) = answer(rt.alloc(), bytes.as_slice(), &mut buffer)? {
-        rt.stdout().write_all(&buffer[..length])?;
-    }
-    Ok(())
+    let length = answer(rt.alloc(), bytes.as_slice(), &mut buffer)?.unwrap();
+    rt.stdout().write_all(&buffer[..length])
 }
