@@ -1,5 +1,5 @@
 use Rattle.std.proofs.Common.{arith}
-use Rattle.lines.proofs.Numbers.{step, room, done, stops}
+use Rattle.lines.proofs.Numbers.{step, room, stops}
 use Rattle.lines.proofs.numerals.value.Goals as goal
 
 pub returns-then-not-is_ascii_digit : goal.returns-then-not-is_ascii_digit
@@ -19,6 +19,3 @@ pub loop-b-preserved : goal.loop-b-preserved
 loop-b-preserved c =
     let s = step c.args.field.now c.loop-b.b-index c.loop-b.n (omega arith) (omega arith) c.loop-b.invariant.0 c.loop-b.invariant.1 c.if-not-is_ascii_digit.ensures.cases in
     (s.0, omega (arith, s.1))
-
-pub returns : goal.returns
-returns c = done c.args.field.now c.loop-b.b-index c.loop-b.n (omega arith) c.loop-b.invariant.0 c.loop-b.invariant.1
