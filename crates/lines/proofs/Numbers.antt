@@ -9,7 +9,7 @@ use Rattle.std.proofs.lemmas.Str.Parse.{IsNumeralModel, numerals_by_value, tells
 use Rattle.std.proofs.lemmas.Fmt.{decimal-digits_value, digits_decimal, digits_value-decimal, length-decimal-le, decimal_nonempty, first_decimal}
 use Rattle.std.proofs.lemmas.Str.{digit_value_digit}
 use Rattle.std.proofs.lemmas.Int.Digits.{digits_more, digits_value_more}
-use Rattle.std.proofs.lemmas.List.{length-take-le, take_all}
+use Rattle.std.proofs.lemmas.List.{length-take-le}
 use Rattle.lines.specs.Numerals.{well_formed, value_of, number_of, Spells, ReadsWhatIsSpelled}
 
 pub digits : IsNumeralModel (λ ds. all_ascii_digits ds ≡ true) (digits_value 10)
@@ -34,13 +34,6 @@ pub room : (f : List ℕ) (i n : ℕ) → i < length f → length f ≤ 13 → a
 room f i n lt small all is =
     let long : length (take i f) ≡ i = length-take-le i f (omega arith) in
     omega (arith, digits_value_short digits (take i f) 12 all (omega arith))
-
-pub done : (f : List ℕ) (i n : ℕ) → length f ≤ i → all_ascii_digits (take i f) ≡ true → n ≡ digits_value 10 (take i f) → Some n ≡ value_of f
-done f i n end all is =
-    let whole : take i f ≡ f = take_all i f (omega arith) in
-    let full : all_ascii_digits f ≡ true = cc in
-    let same : n ≡ digits_value 10 f = cc in
-    ap Some same ∙ sym (cond-true (all_ascii_digits f) _ _ full)
 
 number-true : (f : List ℕ) → well_formed f ≡ true → all_ascii_digits f ≡ true → number_of f ≡ Some (digits_value 10 f)
 number-true f w d = cond-true (well_formed f) _ _ w ∙ cond-true (all_ascii_digits f) _ _ d

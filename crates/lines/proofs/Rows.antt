@@ -1,7 +1,6 @@
 -- Reading number fields one after another.
-use Rattle.std.proofs.Common.{◌≡◌, ℕ, suc, ◌+◌, ◌-◌, ◌<◌, ◌≤◌, List, [], ◌∷◌, ◌++◌, length, take, set, Some, None, Option, Ok, Err, Result, sym, refl, ap, ◌∙◌, subst, append_assoc, append-nil, add-zero, arith}
-use native.Mathlib.Nat.{sub-zero}
-use Rattle.std.proofs.lemmas.List.{take_more_set, take_all, length-set}
+use Rattle.std.proofs.Common.{◌≡◌, ℕ, suc, ◌+◌, ◌-◌, ◌<◌, List, [], ◌∷◌, ◌++◌, length, take, set, Some, Option, Ok, Err, Result, sym, refl, ap, ◌∙◌, subst, append_assoc, arith}
+use Rattle.std.proofs.lemmas.List.{take_more_set, length-set}
 use Rattle.lines.specs.Fields.{numbers_of, first}
 
 -- the numbers read so far, before what the rest reads as
@@ -16,18 +15,6 @@ Read k p i was ns left = numbers_of k p was ≡ prefixed ns (numbers_of (k - i) 
 prefixed-first : (ns : List ℕ) (p n : ℕ) (r : Result (List ℕ × List (List ℕ)) ℕ) → prefixed ns (first p (Some n) r) ≡ prefixed (ns ++ n ∷ []) r
 prefixed-first ns p n (Ok r) = ap (λ l. Ok (l, r.1)) (sym (append_assoc ns (n ∷ []) r.0))
 prefixed-first ns p n (Err q) = refl
-
-prefixed-nil : (r : Result (List ℕ × List (List ℕ)) ℕ) → prefixed [] r ≡ r
-prefixed-nil (Ok r) = refl
-prefixed-nil (Err p) = refl
-
-pub read_none : (k p : ℕ) (was : List (List ℕ)) → Read k p 0 was [] was
-read_none k p was = sym (rw (sub-zero k, add-zero p) (prefixed-nil (numbers_of k p was)))
-
-pub read_all : (k p i : ℕ) (was : List (List ℕ)) (ns : List ℕ) (left : List (List ℕ)) → k ≤ i → Read k p i was ns left → numbers_of k p was ≡ Ok (ns, left)
-read_all k p i was ns left le so =
-    let none : k - i ≡ 0 = omega arith in
-    so ∙ (λ t. prefixed ns (numbers_of (none t) (p + i) left)) ∙ ap (λ l. Ok (l, left)) (append-nil ns)
 
 -- what a call for the next number gave, and the fields that it left
 abbrev pub Next : List (List ℕ) → Option ℕ → List (List ℕ) → Type 0
@@ -44,11 +31,6 @@ read_more k p i n was ns left next lt so reads =
     next-first k p i was ns (Some n) left next lt so reads
     ∙ ap (λ q. prefixed ns (first (p + i) (Some n) (numbers_of (k - (i + 1)) q next))) here ∙ prefixed-first ns (p + i) n _
 
--- a field that is wrong or missing
-pub wrong : (k p i : ℕ) (was : List (List ℕ)) (ns : List ℕ) (o : Option ℕ) (left next : List (List ℕ)) → i < k → Read k p i was ns left → Next left o next → o ≡ None → numbers_of k p was ≡ Err (p + i)
-wrong k p i was ns o left next lt so reads none =
-    next-first k p i was ns None left next lt so (subst (λ o. Next left o next) none reads)
-
 -- the same, where the numbers are the front of an array of k
 abbrev pub Sofar : (k p i : ℕ) (was : List (List ℕ)) (out : List ℕ) (left : List (List ℕ)) → Type 0
 Sofar k p i was out left = (length out ≡ k) × Read k p i was (take i out) left
@@ -57,7 +39,3 @@ pub more : (k p i n : ℕ) (was : List (List ℕ)) (out : List ℕ) (o : Option 
 more k p i n was out o left next lt so reads some =
     let grown : take (i + 1) (set out i n) ≡ take i out ++ n ∷ [] = take_more_set out i n (omega (arith, so.0)) in
     (simp length-set so.0, subst (λ ns. Read k p (i + 1) was ns next) (sym grown) (read_more k p i n was (take i out) left next lt so.1 (subst (λ o. Next left o next) some reads)))
-
-pub all : (k p i : ℕ) (was : List (List ℕ)) (out : List ℕ) (left : List (List ℕ)) → k ≤ i → Sofar k p i was out left → numbers_of k p was ≡ Ok (out, left)
-all k p i was out left le so =
-    read_all k p i was (take i out) left le so.1 ∙ ap (λ l. Ok (l, left)) (take_all i out (omega (arith, so.0)))
