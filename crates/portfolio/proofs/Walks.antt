@@ -1,8 +1,7 @@
 -- Lines passed over one after another.
-use Rattle.std.proofs.Common.{◌≡◌, ℕ, zero, suc, ◌+◌, ◌-◌, ◌<◌, ◌≤◌, true, ltb, List, [], ◌∷◌, length, is_some, Some, None, Ok, Err, Option, Result, sym, refl, ap, ◌∙◌, arith, Bor}
-use Rattle.std.proofs.lemmas.Bool.{le-ltb, cond-false}
+use Rattle.std.proofs.Common.{◌≡◌, ℕ, zero, suc, ◌+◌, ◌-◌, ◌<◌, true, List, [], ◌∷◌, length, is_some, Some, None, Ok, Err, Option, Result, sym, refl, ap, ◌∙◌, arith, Bor}
 use Rattle.std.specs.Prelude.{MatchOption}
-use Rattle.entries.specs.Entries.{PlainEntry, PlainPortfolio}
+use Rattle.entries.specs.Entries.{PlainEntry}
 use Rattle.entries.specs.declared.investee.InvesteeEntry.{InvesteeEntry}
 use Rattle.entries.specs.declared.stop.Stop.{Stop}
 use Rattle.lines.specs.Fields.{pieces, pieces_left}
@@ -13,7 +12,7 @@ use Rattle.portfolio_lines.specs.Misreads.{place_of}
 use Rattle.portfolio_lines.specs.declared.misread.Misread.{Misread}
 use Rattle.portfolio_lines.specs.declared.posts.Key.{Key}
 use Rattle.portfolio.specs.Cursors.{with_line, lines_in, unless_wrong, all_in}
-use Rattle.portfolio.specs.Layout.{missing, not_laid_out, next_line, on_line, in_front, section_of, ended, head_of, postings, body_of, layout_of}
+use Rattle.portfolio.specs.Layout.{missing, not_laid_out, next_line, on_line, in_front, section_of, ended, postings, body_of}
 use Rattle.portfolio.specs.Rows.{passes, after, passed}
 use Rattle.portfolio.specs.declared.head.Head.{Head}
 
@@ -187,15 +186,3 @@ module _ (h : Head) (ps : List (List ℕ)) where
         pub body-read : (u : Unit {0}) → Ok u ≡ ended n ss tt
             → Ok (record { guide = h.guide; investees = all_in investee_of (lines_in h.investees ps); posts = postings (all_in key_of (lines_in h.posts qs)) (all_in balance_of (lines_in h.posts rs)) }) ≡ body_of h ps
         body-read u d = sym (then_ok _ _ investees ∙ then_ok _ _ keys ∙ then_ok _ _ balances ∙ ended-as _ (2 + h.investees + h.posts + h.posts) ss u (d ∙ ap (λ l. ended l ss tt) last))
-
--- ---- the file
-
-top : (bs : List ℕ) (was : List (List ℕ)) (x : List ℕ) (ps : List (List ℕ)) → length bs ≤ 65536 → was ≡ pieces 10 bs → next_line was ≡ Some (x, ps) → layout_of bs ≡ and_then (head_of x) (λ h. body_of h ps)
-top bs was x ps short is cut =
-    cond-false (ltb 65536 (length bs)) _ _ (le-ltb 65536 (length bs) short) ∙ ap (λ o. on_line 1 o (λ line ps. and_then (head_of line) (λ h. body_of h ps))) (ap next_line (sym is) ∙ cut)
-
-pub layout-head : (bs : List ℕ) (was : List (List ℕ)) (x : List ℕ) (ps : List (List ℕ)) (s : Stop) → length bs ≤ 65536 → was ≡ pieces 10 bs → next_line was ≡ Some (x, ps) → Err s ≡ head_of x → Err s ≡ layout_of bs
-layout-head bs was x ps s short is cut head = sym (top bs was x ps short is cut ∙ then-err _ s (sym head))
-
-pub layout-body : (bs : List ℕ) (was : List (List ℕ)) (x : List ℕ) (ps : List (List ℕ)) (h : Head) (r : Result PlainPortfolio Stop) → length bs ≤ 65536 → was ≡ pieces 10 bs → next_line was ≡ Some (x, ps) → Ok h ≡ head_of x → r ≡ body_of h ps → r ≡ layout_of bs
-layout-body bs was x ps h r short is cut head body = body ∙ sym (top bs was x ps short is cut ∙ then_ok _ h (sym head))
