@@ -14,6 +14,7 @@ use std::alloc::{AllocError, Global};
 // The answer to any bytes as a portfolio file, at the start of the buffer, and how long it is: the page of the book,
 // or the one line `X line refusal place source`. The rest of the buffer stays. A buffer that is too short is refused
 // and left as it was, and so is one where memory is wanting.
+// A `Result` in a `Result`: want of memory is never mixed with a refusal of the buffer.
 pub fn answer(
     heap: Global,
     bytes: &[u8],

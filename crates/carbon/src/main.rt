@@ -9,6 +9,7 @@ use std::io::{Read, Write};
 
 fn main(rt: HostRuntime) -> io::Result<()> {
     let mut bytes = Vec::new(rt.alloc());
+    // The same chain of calls as in own/main.rt: a crate for it would be longer than both.
     rt.stdin()
         .take(MOST_BYTES as u64 + 1)
         .read_to_end(&mut bytes)?;

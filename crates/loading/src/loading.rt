@@ -24,6 +24,7 @@ fn load_portfolio(heap: Global, portfolio: Portfolio<'_>) -> Result<Loaded, Allo
 
 // Any bytes as a portfolio file: where they are laid out as one, a new book with its entries, to the last or to the
 // first that is declined; else where they stop being one.
+// A `Result` in a `Result`: want of memory is never mixed with what is said of the file.
 pub fn load(heap: Global, bytes: &[u8]) -> Result<Result<Loaded, Stop>, AllocError>
     ensures loaded { IfOk result (λ a. seen_loaded a ≡ loading_of bytes.now) }
     ensures portfolios { LoadsPortfolios bytes.now (loading_of bytes.now) }

@@ -7,7 +7,7 @@ use entries::guide::Guide;
 use entries::stop::Stop;
 use portfolio_lines::row::read_row;
 
-// The most investees and posts of a file.
+// The most investees and posts of a file, which knows no book; a book's own limits are in `plain`.
 pub const MOST_INVESTEES: u64 = 200;
 
 pub const MOST_POSTS: u64 = 1_000;

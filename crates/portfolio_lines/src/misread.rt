@@ -2,6 +2,7 @@
 ghost use Rattle.std.specs.Prelude.{◌≡◌};
 ghost use Rattle.portfolio_lines.specs.Misreads.{place_of};
 
+// Not `lines`' LineError: its fields are counted from 1 through the whole line, as faults name them.
 #[derive(Clone, Copy, Debug, PartialEq, Eq)]
 pub enum Misread {
     // It has too many bytes.
