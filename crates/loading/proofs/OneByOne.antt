@@ -37,9 +37,6 @@ pub record Entering (t₀ : Tables) (first : ℕ) (p₀ : PlainBook) (all : List
   pub same : tried t₀ first p₀ all ≡ tried t line p left
   pub lines : line + length left ≡ first + length all
 
-pub entering-none : (t : Tables) (first : ℕ) (p : PlainBook) (all left : List Step) → left ≡ all → Entering t first p all t first p left
-entering-none t first p all left is = record { same = ap (tried t first p) (sym is); lines = ap (λ cs. first + length cs) is }
-
 next-tried : (t : Tables) (line : ℕ) (p : PlainBook) (c : Step) (cs : List Step) → tried t line p (c ∷ cs) ≡ unless (declined t p c) (tried t (suc line) (after t p c) cs) (λ f. outcome p (Some (stop_at line f)))
 unfolding tried
 next-tried t line p c cs = refl
@@ -71,6 +68,3 @@ module _ (t₀ : Tables) (first : ℕ) (p₀ : PlainBook) (all : List Step) (t :
   pub entering-all : left ≡ [] → outcome p None ≡ tried t₀ first p₀ all
   unfolding tried
   entering-all is = sym (h.same ∙ ap (tried t line p) is)
-
-  pub entering-lines : left ≡ [] → line ≡ first + length all
-  entering-lines is = let none : length left ≡ 0 = ap length is in omega (arith, h.lines)

@@ -1,28 +1,13 @@
-use Rattle.std.proofs.Common.{Some, refl, ap, ◌∙◌, arith}
-use Rattle.std.specs.Iterator.{size}
+use Rattle.std.proofs.Common.{Some, ap, ◌∙◌, arith}
 use Rattle.book.specs.View.{plain}
 use Rattle.loading.specs.Trying.{outcome}
-use Rattle.loading.proofs.OneByOne.{entering-none, entering-more, entering-stopped, entering-all, entering-lines}
+use Rattle.loading.proofs.OneByOne.{entering-more, entering-stopped, entering-all}
 use Rattle.loading.proofs.entering.enter_all.Goals as goal
-
-pub loop-entry-init : goal.loop-entry-init
-loop-entry-init g c =
-    let same = c.into_iter-entry-iterator.ensures.into_iter_gives in (
-      λ left law. entering-none _ _ _ _ _ (ap left same),
-      refl,
-      omega (arith, c.requires.lines, ap (λ it. size (g.I.Iterator.remaining it)) same),
-    )
 
 pub returns-in-Err-clause-tried : goal.returns-in-Err-clause-tried
 returns-in-Err-clause-tried g c = λ left law.
     ap (λ s. outcome (plain c.enter.new.book) (Some s)) c.at.ensures
     ∙ entering-stopped _ _ _ _ _ c.loop-entry.line _ _ (c.loop-entry.invariant.0 left law) (g.I.Item.Entry.call c.in-Some.entry) _ _ c.in-Err.fault (law.next _ _ _ c.in-Some.ensures.steps) c.in-Err.ensures.declined c.enter.ensures.book
-
-pub returns-in-Err-clause-rule : goal.returns-in-Err-clause-rule
-returns-in-Err-clause-rule g c = c.enter.ensures.rule ∙ c.loop-entry.invariant.1
-
-pub overflow_add-line : goal.overflow_add-line
-overflow_add-line g c = omega (arith, c.loop-entry.invariant.2)
 
 pub loop-entry-preserved : goal.loop-entry-preserved
 loop-entry-preserved g c =
@@ -34,9 +19,3 @@ loop-entry-preserved g c =
 
 pub returns-clause-tried : goal.returns-clause-tried
 returns-clause-tried g c = λ left law. entering-all _ _ _ _ _ _ _ _ (c.loop-entry.invariant.0 left law) (law.none _ _ c.in-None.ensures.steps)
-
-pub returns-clause-next : goal.returns-clause-next
-returns-clause-next g c = λ left law. entering-lines _ _ _ _ _ _ _ _ (c.loop-entry.invariant.0 left law) (law.none _ _ c.in-None.ensures.steps)
-
-pub returns-clause-rule : goal.returns-clause-rule
-returns-clause-rule g c = c.loop-entry.invariant.1
