@@ -35,14 +35,6 @@ fn put_accounts(page: &mut Writer<'_>, accounts: &[Option<InvesteeAccount>]) -> 
     Some(())
 }
 
-// The branch whose sheet stands at a place of the table.
-fn branch_at(place: usize) -> usize
-    requires { place + 1 < 2 ^ 64 }
-    ensures { result ≡ place + 1 }
-{
-    place + 1
-}
-
 // The lines of the branches that have a sheet, in ascending order.
 fn put_sheets(page: &mut Writer<'_>, sheets: &[Option<Kilograms>]) -> Option<()>
     requires { page.old.at ≤ length page.old.buffer.now }
@@ -50,7 +42,7 @@ fn put_sheets(page: &mut Writer<'_>, sheets: &[Option<Kilograms>]) -> Option<()>
 {
     for (i, sheet) in sheets.iter().enumerate() {
         if let Some(sheet) = sheet {
-            put_branch(page, branch_at(i), *sheet)?;
+            put_branch(page, i + 1, *sheet)?;
         }
     }
     Some(())

@@ -5,7 +5,7 @@ ghost use Rattle.pages.specs.Page.{head_line, account_line, branch_line, total_l
 
 use itoa::Integer;
 use lines::writing::Writer;
-use plain::answers::{InvesteeAccount, InvesteeTotal, Kilograms};
+use plain::answers::{InvesteeAccount, Kilograms};
 
 // A number, and the byte that ends its field.
 fn put_field<I: Integer>(page: &mut Writer<'_>, n: I, end: u8) -> Option<()>
@@ -23,20 +23,14 @@ pub(crate) fn put_head(page: &mut Writer<'_>, investees: usize) -> Option<()>
     put_field(page, investees, b'\n')
 }
 
-// The two fields after the kilograms.
-fn last_fields(total: InvesteeTotal) -> [u64; 2]
-    ensures { result ≡ total.reason ∷ total.grade ∷ [] }
-{
-    [u64::from(total.reason), u64::from(total.grade)]
-}
-
 // `id kilograms reason grade`
 pub(crate) fn put_account(page: &mut Writer<'_>, account: InvesteeAccount) -> Option<()>
     ensures { Wrote page.old (account_line account) page.new result }
 {
     put_field(page, account.id, b' ')?;
-    put_field(page, account.total.kilograms.emissions, b' ')?;
-    page.put_numbers(&last_fields(account.total))
+    let total = account.total;
+    put_field(page, total.kilograms.emissions, b' ')?;
+    page.put_numbers(&[u64::from(total.reason), u64::from(total.grade)])
 }
 
 // `B branch kilograms`

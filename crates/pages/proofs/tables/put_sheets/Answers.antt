@@ -6,20 +6,17 @@ use Rattle.pages.proofs.Rows.{SheetsLeft, branch-more-some, branch-more-none, br
 use Rattle.pages.proofs.tables.put_sheets.Goals.{in-Some+in_ok-put_branch, in_default}
 use Rattle.pages.proofs.tables.put_sheets.Goals as goal
 
-pub loop-i-init : goal.loop-i-init
-loop-i-init c = record { left = left-all _ _; within = c.requires }
-
 pub returns-in_err-put_branch : goal.returns-in_err-put_branch
 returns-in_err-put_branch c =
     left-stop (branch_line (c.loop-i.i + 1) c.in-Some.sheet) _ (subst (Left _ _ _) (branch-more-some c.args.sheets.now c.loop-i.i _ c.loop-i-test.true c.in-Some.is) c.loop-i.invariant.left)
-    c.from_residual.ensures (subst (λ b. Wrote c.loop-i.page (branch_line b c.in-Some.sheet) c.put_branch.new.page None) c.branch_at.ensures c.in_err-put_branch.ensures)
+    c.from_residual.ensures c.in_err-put_branch.ensures
 
 pub loop-i-preserved : goal.loop-i-preserved
 loop-i-preserved c =
     elim c.match-sheet.branch [
       | in-Some+in_ok-put_branch w ↦
           subst (λ p. SheetsLeft c.args.page.now p c.args.sheets.now (c.loop-i.i + 1)) (sym w.page-is) (record {
-            left = left-more (branch_line (c.loop-i.i + 1) w.in-Some.sheet) _ (subst (Left _ _ _) (branch-more-some c.args.sheets.now c.loop-i.i _ c.loop-i-test.true w.in-Some.is) c.loop-i.invariant.left) (subst (λ b. Wrote c.loop-i.page (branch_line b w.in-Some.sheet) w.put_branch.new.page (Some _)) w.branch_at.ensures w.in_ok-put_branch.ensures);
+            left = left-more (branch_line (c.loop-i.i + 1) w.in-Some.sheet) _ (subst (Left _ _ _) (branch-more-some c.args.sheets.now c.loop-i.i _ c.loop-i-test.true w.in-Some.is) c.loop-i.invariant.left) w.in_ok-put_branch.ensures;
             within = wrote_within _ w.in_ok-put_branch.ensures;
           })
       | in_default w ↦
