@@ -1,5 +1,5 @@
 // A page, from a table of accounts and a table of sheets.
-ghost use Rattle.std.specs.Prelude.{◌≡◌, ◌+◌, ◌^◌, ◌<◌, ◌≤◌, length};
+ghost use Rattle.std.specs.Prelude.{◌≡◌, ◌^◌, ◌<◌, ◌≤◌, length};
 ghost use Rattle.std.specs.List.{flat_map, AllByRecursion};
 ghost use Rattle.lines.specs.Writing.{Wrote};
 ghost use Rattle.pages.specs.Page.{account_line, branch_lines, given, page_of};
@@ -8,8 +8,7 @@ use crate::writers::{put_account, put_branch, put_head, put_total};
 use lines::writing::Writer;
 use plain::answers::{InvesteeAccount, Kilograms};
 
-// How many accounts a table holds. Only reading an id shows that it has 32 bits, so that a page has room: a chain that
-// counts would leave that open.
+// How many accounts a table holds.
 fn held(accounts: &[Option<InvesteeAccount>]) -> usize
     ensures count { result ≡ length (given accounts.now) }
     ensures ids { AllByRecursion (λ a. a.id < 2 ^ 32) (given accounts.now) }
@@ -17,6 +16,7 @@ fn held(accounts: &[Option<InvesteeAccount>]) -> usize
     let mut n = 0;
     for account in accounts {
         if let Some(account) = account {
+            // No chain that counts: only this read shows that an id has 32 bits, so that a page has room.
             let _id = account.id;
             n += 1;
         }

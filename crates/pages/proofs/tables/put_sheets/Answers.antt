@@ -1,6 +1,5 @@
-use Rattle.std.proofs.Common.{◌+◌, Some, None, sym, subst}
-use Rattle.lines.specs.Writing.{Wrote}
-use Rattle.lines.proofs.Writes.{Left, left-all, left-more, left-stop, left-none, wrote_within}
+use Rattle.std.proofs.Common.{◌+◌, sym, subst}
+use Rattle.lines.proofs.Writes.{Left, left-more, left-stop, left-none, wrote_within}
 use Rattle.pages.specs.Page.{branch_line}
 use Rattle.pages.proofs.Rows.{SheetsLeft, branch-more-some, branch-more-none, branch-all}
 use Rattle.pages.proofs.tables.put_sheets.Goals.{in-Some+in_ok-put_branch, in_default}
