@@ -10,7 +10,7 @@ use factors::Activity;
 use sources::economic::Economic;
 use sources::reported::Reported;
 
-// No one function for both: they differ only in the type and its fields' names, which a closure would repeat.
+// Not one with `read_mean`: only the type and its fields' names differ, and a closure would repeat those.
 fn read_report(fields: &mut Fields<'_>) -> Result<Method, Misread>
     ensures { held (report_in (fields_left fields.old)) ≡ leaving result (fields_left fields.new) }
 {
