@@ -1,5 +1,5 @@
 -- What is known of a call that is not declined.
-use Rattle.std.proofs.Common.{◌≡◌, ℕ, ◌≤◌, Bool, true, false, not, ltb, leb, List, length, Some, None, Ok, Err, Option, Result, refl, arith}
+use Rattle.std.proofs.Common.{◌≡◌, ℕ, ◌≤◌, Bool, true, false, not, ltb, leb, List, length, Some, None, Ok, Err, Option, Result, refl}
 use Rattle.std.proofs.lemmas.Bool.{or_parts, ltb-false, not-false}
 use Rattle.faults.specs.declared.Fault.{Fault}
 use Rattle.faults.specs.declared.Refusal.{Refusal}
@@ -20,24 +20,24 @@ use Rattle.plain.specs.Steps.{Meaning, enter, post, amend}
 -- ---- one refusal
 
 pub refuse-none : (test : Bool) (refusal : Refusal) (next : Option Fault) → refuse test refusal next ≡ None → (test ≡ false) × (next ≡ None)
-refuse-none true refusal next e = let z : ◌≡◌ {A = ℕ} 0 1 = cc in absurd (omega arith)
+refuse-none true refusal next e = absurd cc
 refuse-none false refusal next e = (refl, e)
 
 pub if_open-none : (o : Option PlainInvestee) (next : PlainInvestee → Option Fault) → if_open o next ≡ None → (x : PlainInvestee) × (o ≡ Some x) × (next x ≡ None)
-if_open-none None next e = let z : ◌≡◌ {A = ℕ} 0 1 = cc in absurd (omega arith)
+if_open-none None next e = absurd cc
 if_open-none (Some x) next e = (x, refl, e)
 
 pub if_in_range-none : (o : Result Profile Fault) (next : Profile → Option Fault) → if_in_range o next ≡ None → (x : Profile) × (o ≡ Ok x) × (next x ≡ None)
 if_in_range-none (Ok x) next e = (x, refl, e)
-if_in_range-none (Err f) next e = let z : ◌≡◌ {A = ℕ} 0 1 = cc in absurd (omega arith)
+if_in_range-none (Err f) next e = absurd cc
 
 pub if_based-none : (o : Result Base Refusal) (next : Option Fault) → if_based o next ≡ None → (b : Base) × (o ≡ Ok b) × (next ≡ None)
 if_based-none (Ok b) next e = (b, refl, e)
-if_based-none (Err f) next e = let z : ◌≡◌ {A = ℕ} 0 1 = cc in absurd (omega arith)
+if_based-none (Err f) next e = absurd cc
 
 pub if_read-none : (o : Meaning) (next : Reading → Option Fault) → if_read o next ≡ None → (r : Reading) × (o ≡ Ok r) × (next r ≡ None)
 if_read-none (Ok r) next e = (r, refl, e)
-if_read-none (Err f) next e = let z : ◌≡◌ {A = ℕ} 0 1 = cc in absurd (omega arith)
+if_read-none (Err f) next e = absurd cc
 
 -- ---- ranges
 

@@ -49,7 +49,7 @@ due-refuse Holds test refusal next later to from rest = (
 )
 
 none-some : {X : Type 0} (x : X) → None ≡ Some x → ⊥
-none-some x e = let z : ◌≡◌ {A = ℕ} 0 1 = cc in omega arith
+none-some x e = cc
 
 due-open : (id : ℕ) (p : PlainBook) (next : PlainInvestee → Option Fault) (later : List Case) → ((x : PlainInvestee) → investee_of id p ≡ Some x → FirstDue later (next x))
     → FirstDue ((NotOpen due_if (is_open id p ≡ false)) ∷ later) (if_open (investee_of id p) next)
@@ -62,7 +62,7 @@ due-open id p next later rest = by (investee_of id p) refl
 
 due-source : (meaning : Meaning) (next : Reading → Option Fault) (later : List Case) → ((r : Reading) → meaning ≡ Ok r → FirstDue later (next r)) → FirstDue (source_fault meaning ∷ later) (if_read meaning next)
 unfolding FirstDue
-due-source (Ok r) next later rest = (λ f e. let z : ◌≡◌ {A = ℕ} 0 1 = cc in absurd (omega arith), λ none. rest r refl)
+due-source (Ok r) next later rest = (λ f e. absurd cc, λ none. rest r refl)
 due-source (Err g) next later rest = (λ f e. let same : g ≡ f = cc in ap Some same, λ none. absurd (none g refl))
 
 due_below : (meaning : Meaning) (r : Reading) → meaning ≡ Ok r → FirstDue ((ReadingBelowZero due_if BelowZero meaning) ∷ []) (below_zero r)
@@ -102,11 +102,11 @@ out-entry b m v e =
     (or_cases (branch_out_of_range b) _ e)
 
 bond-is : (k : Kind) → is_bond k ≡ true → k ≡ Bond
-bond-is Project e = let z : ◌≡◌ {A = ℕ} 0 1 = cc in absurd (omega arith)
-bond-is PropertyDevelopment e = let z : ◌≡◌ {A = ℕ} 0 1 = cc in absurd (omega arith)
-bond-is PropertyPurchase e = let z : ◌≡◌ {A = ℕ} 0 1 = cc in absurd (omega arith)
-bond-is Vehicle e = let z : ◌≡◌ {A = ℕ} 0 1 = cc in absurd (omega arith)
-bond-is GeneralLoan e = let z : ◌≡◌ {A = ℕ} 0 1 = cc in absurd (omega arith)
+bond-is Project e = absurd cc
+bond-is PropertyDevelopment e = absurd cc
+bond-is PropertyPurchase e = absurd cc
+bond-is Vehicle e = absurd cc
+bond-is GeneralLoan e = absurd cc
 bond-is Bond e = refl
 
 is-bond : (k : Kind) → k ≡ Bond → is_bond k ≡ true
@@ -148,7 +148,7 @@ module _ (id : ℕ) (p : PlainBook) (x : PlainInvestee) (found : investee_of id 
 
   past : (s : ℕ) (d : Denominator) → passes s d ≡ true → ((w : ℕ) × (d ≡ at_least w) × (w < s))
   past s (at_least v) e = (v, refl, ltb-true v s e)
-  past s whole e = let z : ◌≡◌ {A = ℕ} 0 1 = cc in absurd (omega arith)
+  past s whole e = absurd cc
 
   due-lent : (t : Tables) (qs : List PlainPosition)
       → FirstDue ((ExposureTooLarge due_if OfOpen id p (λ y. most_exposure < exposure_to y qs)) ∷ (BondAboveDenominator due_if OfOpen id p (BondPasses t qs)) ∷ []) (too_much_lent t x qs)
@@ -191,15 +191,15 @@ record Profiled (f : InvesteeFields) (x : Profile) : Type 0 where
   same_figures : x.figures ≡ f.figures
 
 profiled-from : (f : InvesteeFields) (k : Option Kind) (z : Option Size) (x : Profile) → kind_numbered f.kind ≡ k → profiled f k z ≡ Ok x → Profiled f x
-profiled-from f None z x p e = let n : ◌≡◌ {A = ℕ} 0 1 = cc in absurd (omega arith)
-profiled-from f (Some k) None x p e = let n : ◌≡◌ {A = ℕ} 0 1 = cc in absurd (omega arith)
+profiled-from f None z x p e = absurd cc
+profiled-from f (Some k) None x p e = absurd cc
 profiled-from f (Some k) (Some z) x p e = by (numbers_in_range f) e
   where
     by : (t : Bool) → cond t (Ok (profile f k z)) out_of_range ≡ Ok x → Profiled f x
     by true e =
         let same : profile f k z ≡ x = cc in
         subst (Profiled f) same (record { same_id = refl; same_kind = p; same_figures = refl })
-    by false e = let n : ◌≡◌ {A = ℕ} 0 1 = cc in absurd (omega arith)
+    by false e = absurd cc
 
 due-fields : (f : InvesteeFields) (next : Profile → Option Fault) (later : List Case) → ((x : Profile) → profile_of f ≡ Ok x → Profiled f x → FirstDue later (next x))
     → FirstDue ((FieldOutOfRange due_if (WithinRanges f → ⊥)) ∷ later) (if_in_range (profile_of f) next)
@@ -208,7 +208,7 @@ due-fields f next later rest = by (profile_of f) refl
   where
     by : (r : Result Profile Fault) → profile_of f ≡ r → FirstDue ((FieldOutOfRange due_if (WithinRanges f → ⊥)) ∷ later) (if_in_range r next)
     by (Ok x) e = (
-      λ g h. let wrong : profile_of f ≡ out_of_range = (checks-ranges f).refused h.0 in let n : ◌≡◌ {A = ℕ} 0 1 = cc in absurd (omega arith),
+      λ g h. let wrong : profile_of f ≡ out_of_range = (checks-ranges f).refused h.0 in absurd cc,
       λ none. rest x e (profiled-from f (kind_numbered f.kind) (size_numbered f.size) x refl e),
     )
     by (Err g) e = (
@@ -216,7 +216,7 @@ due-fields f next later rest = by (profile_of f) refl
           let wrong : profile_of f ≡ out_of_range = (checks-ranges f).refused due.0 in
           let same : g ≡ fault FieldOutOfRange 0 0 = cc in
           ap Some (same ∙ sym due.1),
-      λ none. absurd (none (fault FieldOutOfRange 0 0) (λ w. let right = ((checks-ranges f).accepted w).1 in let n : ◌≡◌ {A = ℕ} 0 1 = cc in absurd (omega arith), refl)),
+      λ none. absurd (none (fault FieldOutOfRange 0 0) (λ w. let right = ((checks-ranges f).accepted w).1 in absurd cc, refl)),
     )
 
 due-based : (r : Result Base Refusal) (NotCovered NotGiven : Type 0) (next : Option Fault) (later : List Case) → BaseInRange r
@@ -224,15 +224,15 @@ due-based : (r : Result Base Refusal) (NotCovered NotGiven : Type 0) (next : Opt
     → FirstDue ((KindNotCovered due_if NotCovered) ∷ (FigureNotGiven due_if NotGiven) ∷ later) (if_based r next)
 unfolding FirstDue
 due-based (Ok b) C G next later range c-to c-from g-to g-from rest = (
-  λ f h. let e = c-to h.0 in let n : ◌≡◌ {A = ℕ} 0 1 = cc in absurd (omega arith),
-  λ _. (λ f h. let e = g-to h.0 in let n : ◌≡◌ {A = ℕ} 0 1 = cc in absurd (omega arith), λ _. rest),
+  λ f h. let e = c-to h.0 in absurd cc,
+  λ _. (λ f h. let e = g-to h.0 in absurd cc, λ _. rest),
 )
 due-based (Err e) C G next later range c-to c-from g-to g-from rest = by range
   where
     by : (e ≡ KindNotCovered) ⊎ (e ≡ FigureNotGiven) → FirstDue ((KindNotCovered due_if C) ∷ (FigureNotGiven due_if G) ∷ later) (Some (fault e 0 0))
     by (inl k) = (λ f h. ap Some (ap (λ r. fault r 0 0) k ∙ sym h.1), λ none. absurd (none (fault KindNotCovered 0 0) (c-from (ap Err k), refl)))
     by (inr k) = (
-      λ f h. let wrong : Err e ≡ Err KindNotCovered = c-to h.0 in let n : ◌≡◌ {A = ℕ} 0 1 = cc in absurd (omega arith),
+      λ f h. let wrong : Err e ≡ Err KindNotCovered = c-to h.0 in absurd cc,
       λ _. (λ f h. ap Some (ap (λ r. fault r 0 0) k ∙ sym h.1), λ none. absurd (none (fault FigureNotGiven 0 0) (g-from (ap Err k), refl))),
     )
 

@@ -13,7 +13,7 @@ all_both P Q (x ∷ xs) p q = ((p.0, q.0), all_both P Q xs p.1 q.1)
 
 pub first_passes : {X : Type 0} (test : X → Bool) (xs : List X) (y : X) → first_of test xs ≡ Some y → test y ≡ true
 unfolding first_of
-first_passes test [] y e = let z : ◌≡◌ {A = ℕ} 0 1 = cc in absurd (omega arith)
+first_passes test [] y e = absurd cc
 first_passes {X} test (x ∷ xs) y e = by (test x) refl e (first_passes test xs y)
   where
     by : (t : Bool) → test x ≡ t → cond t (Some x) (first_of test xs) ≡ Some y → (first_of test xs ≡ Some y → test y ≡ true) → test y ≡ true
@@ -22,7 +22,7 @@ first_passes {X} test (x ∷ xs) y e = by (test x) refl e (first_passes test xs 
 
 pub first-all : {X : Type 0} (P : X → Type 0) (test : X → Bool) (xs : List X) (y : X) → first_of test xs ≡ Some y → AllByRecursion P xs → P y
 unfolding first_of
-first-all P test [] y e all = let z : ◌≡◌ {A = ℕ} 0 1 = cc in absurd (omega arith)
+first-all P test [] y e all = absurd cc
 first-all {X} P test (x ∷ xs) y e all = by (test x) e (λ h. first-all P test xs y h all.1)
   where
     by : (t : Bool) → cond t (Some x) (first_of test xs) ≡ Some y → (first_of test xs ≡ Some y → P y) → P y
@@ -35,12 +35,12 @@ none_passes test [] e = tt
 none_passes {X} test (x ∷ xs) e = by (test x) refl e (none_passes test xs)
   where
     by : (t : Bool) → test x ≡ t → is_some (cond t (Some x) (first_of test xs)) ≡ false → (is_some (first_of test xs) ≡ false → AllByRecursion (λ x. test x ≡ false) xs) → (test x ≡ false) × AllByRecursion (λ x. test x ≡ false) xs
-    by true p e rest = let z : ◌≡◌ {A = ℕ} 0 1 = cc in absurd (omega arith)
+    by true p e rest = absurd cc
     by false p e rest = (p, rest e)
 
 pub still-found : {X : Type 0} (test : X → Bool) (xs : List X) (y : X) → is_some (first_of test xs) ≡ true → is_some (first_of test (xs ++ y ∷ [])) ≡ true
 unfolding first_of
-still-found test [] y e = let z : ◌≡◌ {A = ℕ} 0 1 = cc in absurd (omega arith)
+still-found test [] y e = absurd cc
 still-found {X} test (x ∷ xs) y e = by (test x) e (still-found test xs y)
   where
     by : (t : Bool) → is_some (cond t (Some x) (first_of test xs)) ≡ true → (is_some (first_of test xs) ≡ true → is_some (first_of test (xs ++ y ∷ [])) ≡ true) → is_some (cond t (Some x) (first_of test (xs ++ y ∷ []))) ≡ true
@@ -97,8 +97,8 @@ module _ {X : Type 0} (test : X → Bool) (change : X → X) where
     where
       head : (s t : Bool) → s ≡ t → is_some (cond s (Some (change x)) (first_of other xs)) ≡ is_some (cond t (Some x) (first_of other xs))
       head true true e = refl
-      head true false e = let z : ◌≡◌ {A = ℕ} 0 1 = cc in absurd (omega arith)
-      head false true e = let z : ◌≡◌ {A = ℕ} 0 1 = cc in absurd (omega arith)
+      head true false e = absurd cc
+      head false true e = absurd cc
       head false false e = refl
 
       tail : (t : Bool) → is_some (first_of other (change_first test change xs)) ≡ is_some (first_of other xs) → is_some (cond t (Some x) (first_of other (change_first test change xs))) ≡ is_some (cond t (Some x) (first_of other xs))

@@ -22,7 +22,7 @@ sum-plus f g (x ∷ xs) = omega (arith, sum_by-cons (λ x. f x + g x) x xs, sum_
 -- an id that is open is that of one investee
 one-of-key : {X : Type 0} (key : X → ℕ) (n : ℕ) (xs : List X) → Pairwise (λ x y. key y ≢ key x) xs → is_some (first_of (λ x. eqb (key x) n) xs) ≡ true → sum_by (λ x. cond (eqb n (key x)) 1 0) xs ≡ 1
 unfolding Pairwise first_of
-one-of-key key n [] differ found = let z : ◌≡◌ {A = ℕ} 0 1 = cc in absurd (omega arith)
+one-of-key key n [] differ found = absurd cc
 one-of-key {X} key n (x ∷ xs) differ found = sum_by-cons (λ x. cond (eqb n (key x)) 1 0) x xs ∙ by (eqb (key x) n) refl found (one-of-key key n xs differ.1)
   where
     by : (t : Bool) → eqb (key x) n ≡ t → is_some (cond t (Some x) (first_of (λ x. eqb (key x) n) xs)) ≡ true

@@ -1,5 +1,5 @@
 -- What is known of the profile that checked fields give.
-use Rattle.std.proofs.Common.{◌≡◌, ℕ, Bool, true, false, cond, leb, Some, None, Ok, Option, refl, subst, arith}
+use Rattle.std.proofs.Common.{◌≡◌, Bool, true, false, cond, leb, Some, None, Ok, Option, refl, subst}
 use Rattle.std.proofs.lemmas.Bool.{and_parts, leb-true}
 use Rattle.rules.specs.Figures.{most_figure, within_limits, WithinLimits}
 use Rattle.rules.specs.Investees.{numbers_in_range, profile, profiled, profile_of, out_of_range}
@@ -31,15 +31,15 @@ numbers-figures f e =
     limits-hold f.figures days.1
 
 profiled-figures : (f : InvesteeFields) (k : Option Kind) (z : Option Size) (x : Profile) → profiled f k z ≡ Ok x → WithinLimits x.figures
-profiled-figures f None z x e = let n : ◌≡◌ {A = ℕ} 0 1 = cc in absurd (omega arith)
-profiled-figures f (Some k) None x e = let n : ◌≡◌ {A = ℕ} 0 1 = cc in absurd (omega arith)
+profiled-figures f None z x e = absurd cc
+profiled-figures f (Some k) None x e = absurd cc
 profiled-figures f (Some k) (Some z) x e = by (numbers_in_range f) refl e
   where
     by : (t : Bool) → numbers_in_range f ≡ t → cond t (Ok (profile f k z)) out_of_range ≡ Ok x → WithinLimits x.figures
     by true h e =
         let same : profile f k z ≡ x = cc in
         subst (λ (y : Profile). WithinLimits y.figures) same (numbers-figures f h)
-    by false h e = let n : ◌≡◌ {A = ℕ} 0 1 = cc in absurd (omega arith)
+    by false h e = absurd cc
 
 pub checked-figures : (f : InvesteeFields) (x : Profile) → profile_of f ≡ Ok x → WithinLimits x.figures
 checked-figures f x e = profiled-figures f (kind_numbered f.kind) (size_numbered f.size) x e
