@@ -1,8 +1,9 @@
 -- What is known of a call that is not declined.
-use Rattle.std.proofs.Common.{◌≡◌, ℕ, ◌≤◌, Bool, true, false, not, ltb, leb, List, length, Some, None, Ok, Err, Option, Result, refl}
+use Rattle.std.proofs.Common.{◌≡◌, ℕ, ◌≤◌, Bool, true, false, not, ltb, leb, List, length, Some, None, Ok, Err, Option, Result, sym, refl, subst}
 use Rattle.std.proofs.lemmas.Bool.{or_parts, ltb-false, not-false}
 use Rattle.faults.specs.declared.Fault.{Fault}
 use Rattle.faults.specs.declared.Refusal.{Refusal}
+use Rattle.rules.specs.Figures.{WithinLimits}
 use Rattle.rules.specs.Months.{months}
 use Rattle.rules.specs.Tables.{Tables}
 use Rattle.rules.specs.declared.figures.Base.{Base}
@@ -10,6 +11,7 @@ use Rattle.rules.specs.declared.investees.InvesteeFields.{InvesteeFields}
 use Rattle.rules.specs.Investees.{profile_of}
 use Rattle.rules.specs.declared.investees.Profile.{Profile}
 use Rattle.sources.specs.declared.reading.Reading.{Reading}
+use Rattle.rules.proofs.Ranges.{within-accepted}
 use Rattle.plain.specs.Branches.{Branch, branch_count}
 use Rattle.plain.specs.Changes.{posted, amended}
 use Rattle.plain.specs.Limits.{most_investees, most_balance}
@@ -60,6 +62,11 @@ entry-within b m v e =
     record { branch = branch-within b one.0; month-from = ltb-false m 1 three.0; month-to = ltb-false months m three.1; balance = ltb-false most_balance v two.1 }
 
 -- ---- the calls
+
+pub checked-figures : (f : InvesteeFields) (x : Profile) → profile_of f ≡ Ok x → WithinLimits x.figures
+checked-figures f x e =
+    let accepted = within-accepted f x e in
+    subst WithinLimits (sym accepted.1.same_figures) accepted.0.figures_to
 
 pub record Opened (t : Tables) (p : PlainBook) (fields : InvesteeFields) (meaning : Meaning) : Type 0 where
   pub profile : Profile

@@ -1,14 +1,16 @@
 -- Each call is declined with the first refusal that is due.
-use Rattle.std.proofs.Common.{◌≡◌, ℕ, ◌<◌, ◌≤◌, Bool, true, false, cond, not, ◌&&◌, eqb, ltb, leb, ◌≢◌, ◌⊎◌, List, [], ◌∷◌, length, ℤ, pos, ◌<ℤ◌, is_some, Some, None, Ok, Err, Option, Result, sym, refl, ap, ◌∙◌, subst, ap₂, inl, inr, ⊎_elim, arith}
+use Rattle.std.proofs.Common.{◌≡◌, ℕ, ◌<◌, ◌≤◌, Bool, true, false, not, ◌&&◌, eqb, ltb, leb, ◌≢◌, ◌⊎◌, List, [], ◌∷◌, length, ℤ, pos, ◌<ℤ◌, is_some, Some, None, Ok, Err, Option, Result, sym, refl, ap, ◌∙◌, subst, ap₂, inl, inr, ⊎_elim, arith}
 use lib.Signed.{lt_z}
 use Rattle.std.proofs.lemmas.Int.{ints}
-use Rattle.std.proofs.lemmas.Bool.{both_ways, cases_Bool, cond-true, cond-false, ltb-true, lt-ltb, leb-true, le-leb, eqb-true, ne_eqb, eqb-false, not-true, not_from_false, and_parts, and_from, or_cases, or_left, or_right}
+use Rattle.std.specs.Bool.{Decides}
+use Rattle.std.proofs.lemmas.Bool.{both_ways, cases_Bool, cond-true, cond-false, ltb-true, lt-ltb, leb-true, le-leb, eqb-true, eq-eqb, not-true, not_from_false}
+use Rattle.std.proofs.lemmas.Bool.Decides.{Decides-like, Decides-not, Decides-and, Decides-or, Decides-ltb}
 use Rattle.faults.specs.Refusals.{fault}
 use Rattle.faults.specs.declared.Fault.{Fault}
 use Rattle.faults.specs.declared.Refusal.{Refusal}
 use Rattle.faults.specs.declared.Refusal.TheVariants.{KindNotCovered, FigureNotGiven, FieldOutOfRange, ReadingBelowZero, AlreadyOpen, InvesteesFull, NotOpen, EntryOutOfRange, BondOutsideClosingMonth, MonthAlreadyPosted, MonthNotPosted, PositionsFull, ExposureTooLarge, BondAboveDenominator}
-use Rattle.rules.specs.Investees.{numbers_in_range, profile, profiled, profile_of, out_of_range, WithinRanges}
-use Rattle.rules.specs.Kinds.{kind_number, kind_numbered, size_numbered}
+use Rattle.rules.specs.Investees.{profile_of, out_of_range, WithinRanges, SameNumbers}
+use Rattle.rules.specs.Kinds.{kind_number, kind_numbered}
 use Rattle.rules.specs.Months.{months}
 use Rattle.rules.specs.Tables.{Tables, BaseInRange}
 use Rattle.rules.specs.declared.figures.Base.{Base}
@@ -16,8 +18,7 @@ use Rattle.rules.specs.declared.investees.InvesteeFields.{InvesteeFields}
 use Rattle.rules.specs.declared.investees.Profile.{Profile}
 use Rattle.rules.specs.declared.kinds.Kind.{Kind}
 use Rattle.rules.specs.declared.kinds.Kind.TheVariants.{Project, PropertyDevelopment, PropertyPurchase, Vehicle, GeneralLoan, Bond}
-use Rattle.rules.specs.declared.kinds.Size.{Size}
-use Rattle.rules.proofs.Ranges.{checks-ranges}
+use Rattle.rules.proofs.Ranges.{checks-ranges, within-accepted}
 use Rattle.sources.specs.declared.reading.Reading.{Reading}
 use Rattle.plain.specs.Branches.{branch_count}
 use Rattle.plain.specs.Changes.{posted, amended}
@@ -28,7 +29,7 @@ use Rattle.plain.specs.Parts.{Denominator, at_least, whole}
 use Rattle.plain.specs.PlainBook.{PlainInvestee, PlainPosition, PlainBook, investee_of, is_open, position_of, is_posted}
 use Rattle.plain.specs.Refused.{refuse, if_in_range, if_based, if_open, if_read, branch_out_of_range, entry_out_of_range, bond_outside_closing, no_room_for, passes, too_much_lent, below_zero}
 use Rattle.plain.specs.Steps.{Meaning, enter, restate, reduce, post, amend, ask_part, ask_total, ask_sheet, ask_book_total}
-use Rattle.plain.proofs.Profiles.{checked-figures}
+use Rattle.plain.proofs.Accepted.{checked-figures}
 
 -- ---- one place of the order
 
@@ -37,19 +38,16 @@ unfolding FirstDue
 none-due = refl
 
 -- a test that passes just where the refusal is due
-pub due-refuse : (Holds : Type 0) (test : Bool) (refusal : Refusal) (next : Option Fault) (later : List Case) → (Holds → test ≡ true) → (test ≡ true → Holds) → (test ≡ false → FirstDue later next)
+pub due-refuse : (Holds : Type 0) (test : Bool) (refusal : Refusal) (next : Option Fault) (later : List Case) → Decides test Holds → (test ≡ false → FirstDue later next)
     → FirstDue ((refusal due_if Holds) ∷ later) (refuse test refusal next)
 unfolding FirstDue
-due-refuse Holds test refusal next later to from rest = (
-  λ f h. cond-true test _ _ (to h.0) ∙ ap Some (sym h.1),
+due-refuse Holds test refusal next later decides rest = (
+  λ f h. cond-true test _ _ (decides.1 h.0) ∙ ap Some (sym h.1),
   λ none. ⊎_elim
-      (λ e. absurd (none (fault refusal 0 0) (from e, refl)))
+      (λ e. absurd (none (fault refusal 0 0) (decides.0 e, refl)))
       (λ e. subst (FirstDue later) (sym (cond-false test _ _ e)) (rest e))
       (cases_Bool test),
 )
-
-none-some : {X : Type 0} (x : X) → None ≡ Some x → ⊥
-none-some x e = cc
 
 due-open : (id : ℕ) (p : PlainBook) (next : PlainInvestee → Option Fault) (later : List Case) → ((x : PlainInvestee) → investee_of id p ≡ Some x → FirstDue later (next x))
     → FirstDue ((NotOpen due_if (is_open id p ≡ false)) ∷ later) (if_open (investee_of id p) next)
@@ -68,8 +66,8 @@ due-source (Err g) next later rest = (λ f e. let same : g ≡ f = cc in ap Some
 due_below : (meaning : Meaning) (r : Reading) → meaning ≡ Ok r → FirstDue ((ReadingBelowZero due_if BelowZero meaning) ∷ []) (below_zero r)
 due_below meaning r e =
     due-refuse (BelowZero meaning) (lt_z r.kilograms (pos 0)) ReadingBelowZero None []
-    (λ h. let same : h.0 ≡ r = cc in subst (λ (x : Reading). lt_z x.kilograms (pos 0) ≡ true) same (under h.0.kilograms h.2))
-    (λ t. (r, e, over r.kilograms t)) (λ _. none-due)
+    (λ t. (r, e, over r.kilograms t), λ h. let same : h.0 ≡ r = cc in subst (λ (x : Reading). lt_z x.kilograms (pos 0) ≡ true) same (under h.0.kilograms h.2))
+    (λ _. none-due)
   where
     under : (k : ℤ) → k <ℤ pos 0 → lt_z k (pos 0) ≡ true
     under k h = grind (arith, ints)
@@ -77,48 +75,32 @@ due_below meaning r e =
     over : (k : ℤ) → lt_z k (pos 0) ≡ true → k <ℤ pos 0
     over k h = grind (arith, ints)
 
--- ---- tests and what they say
+-- ---- what the tests decide
 
-branch-out : (b : ℕ) → NoBranch b → branch_out_of_range b ≡ true
-branch-out b (inl h) = or_left (ltb b 1) (ltb branch_count b) (lt-ltb b 1 h)
-branch-out b (inr h) = or_right (ltb b 1) (ltb branch_count b) (lt-ltb branch_count b h)
+branch-out : (b : ℕ) → Decides (branch_out_of_range b) (NoBranch b)
+branch-out b = Decides-or (ltb b 1) (ltb branch_count b) (Decides-ltb b 1) (Decides-ltb branch_count b)
 
-out-branch : (b : ℕ) → branch_out_of_range b ≡ true → NoBranch b
-out-branch b e = ⊎_elim (λ h. inl (ltb-true b 1 h)) (λ h. inr (ltb-true branch_count b h)) (or_cases (ltb b 1) (ltb branch_count b) e)
+entry-out : (b m v : ℕ) → Decides (entry_out_of_range b m v) (NoEntry b m v)
+entry-out b m v =
+    Decides-or (branch_out_of_range b) _ (branch-out b)
+    (Decides-or _ (ltb most_balance v) (Decides-or (ltb m 1) (ltb months m) (Decides-ltb m 1) (Decides-ltb months m)) (Decides-ltb most_balance v))
 
-entry-out : (b m v : ℕ) → NoEntry b m v → entry_out_of_range b m v ≡ true
-entry-out b m v (inl h) = or_left (branch_out_of_range b) _ (branch-out b h)
-entry-out b m v (inr (inl (inl h))) = or_right (branch_out_of_range b) _ (or_left _ (ltb most_balance v) (or_left (ltb m 1) (ltb months m) (lt-ltb m 1 h)))
-entry-out b m v (inr (inl (inr h))) = or_right (branch_out_of_range b) _ (or_left _ (ltb most_balance v) (or_right (ltb m 1) (ltb months m) (lt-ltb months m h)))
-entry-out b m v (inr (inr h)) = or_right (branch_out_of_range b) _ (or_right _ (ltb most_balance v) (lt-ltb most_balance v h))
+bond-is : (k : Kind) → Decides (is_bond k) (k ≡ Bond)
+bond-is Project = (λ e. absurd cc, λ e. absurd cc)
+bond-is PropertyDevelopment = (λ e. absurd cc, λ e. absurd cc)
+bond-is PropertyPurchase = (λ e. absurd cc, λ e. absurd cc)
+bond-is Vehicle = (λ e. absurd cc, λ e. absurd cc)
+bond-is GeneralLoan = (λ e. absurd cc, λ e. absurd cc)
+bond-is Bond = (λ e. refl, λ e. refl)
 
-out-entry : (b m v : ℕ) → entry_out_of_range b m v ≡ true → NoEntry b m v
-out-entry b m v e =
-    ⊎_elim (λ h. inl (out-branch b h))
-    (λ h. ⊎_elim
-    (λ g. inr (inl (⊎_elim (λ k. inl (ltb-true m 1 k)) (λ k. inr (ltb-true months m k)) (or_cases (ltb m 1) (ltb months m) g))))
-    (λ g. inr (inr (ltb-true most_balance v g)))
-    (or_cases _ (ltb most_balance v) h))
-    (or_cases (branch_out_of_range b) _ e)
+full : (b id : ℕ) (qs : List PlainPosition) → Decides (no_room_for b id qs) ((is_some (position_of b id qs) ≡ false) × (most_positions ≤ length qs))
+full b id qs =
+    Decides-and (not (is_some (position_of b id qs))) (leb most_positions (length qs))
+    (not-true _, not_from_false _) (leb-true most_positions (length qs), le-leb most_positions (length qs))
 
-bond-is : (k : Kind) → is_bond k ≡ true → k ≡ Bond
-bond-is Project e = absurd cc
-bond-is PropertyDevelopment e = absurd cc
-bond-is PropertyPurchase e = absurd cc
-bond-is Vehicle e = absurd cc
-bond-is GeneralLoan e = absurd cc
-bond-is Bond e = refl
-
-is-bond : (k : Kind) → k ≡ Bond → is_bond k ≡ true
-is-bond k e = ap is_bond e
-
-full : (b id : ℕ) (qs : List PlainPosition) → (is_some (position_of b id qs) ≡ false) × (most_positions ≤ length qs) → no_room_for b id qs ≡ true
-full b id qs h = and_from _ _ (not_from_false _ h.0) (le-leb most_positions (length qs) h.1)
-
-no_room : (b id : ℕ) (qs : List PlainPosition) → no_room_for b id qs ≡ true → (is_some (position_of b id qs) ≡ false) × (most_positions ≤ length qs)
-no_room b id qs e =
-    let both = and_parts (not (is_some (position_of b id qs))) (leb most_positions (length qs)) e in
-    (not-true _ both.0, leb-true most_positions (length qs) both.1)
+passed : (s : ℕ) (d : Denominator) → Decides (passes s d) ((w : ℕ) × (d ≡ at_least w) × (w < s))
+passed s (at_least v) = (λ e. (v, refl, ltb-true v s e), λ h. let same : v ≡ h.0 = cc h.1 in lt-ltb v s (omega (arith, h.2)))
+passed s whole = (λ e. absurd cc, λ h. absurd (cc h.1))
 
 -- ---- of an open investee
 
@@ -130,33 +112,23 @@ module _ (id : ℕ) (p : PlainBook) (x : PlainInvestee) (found : investee_of id 
       let is : h.0 ≡ x = cc in
       subst P is h.2
 
-  due-found : (P : PlainInvestee → Type 0) (test : Bool) (refusal : Refusal) (next : Option Fault) (later : List Case) → (P x → test ≡ true) → (test ≡ true → P x) → FirstDue later next
+  due-found : (P : PlainInvestee → Type 0) (test : Bool) (refusal : Refusal) (next : Option Fault) (later : List Case) → Decides test (P x) → FirstDue later next
       → FirstDue ((refusal due_if OfOpen id p P) ∷ later) (refuse test refusal next)
-  due-found P test refusal next later to from rest =
-      due-refuse (OfOpen id p P) test refusal next later (λ h. to (same-one P h)) (λ e. (x, found, from e)) (λ _. rest)
+  due-found P test refusal next later decides rest =
+      due-refuse (OfOpen id p P) test refusal next later (Decides-like test (λ h. (x, found, h)) (same-one P) decides) (λ _. rest)
 
   due-outside : (m : ℕ) (next : Option Fault) (later : List Case) → FirstDue later next
       → FirstDue ((BondOutsideClosingMonth due_if OfOpen id p (λ y. IsBond y × (m ≢ months))) ∷ later) (refuse (bond_outside_closing x m) BondOutsideClosingMonth next)
   due-outside m next later rest =
       due-found (λ y. IsBond y × (m ≢ months)) (bond_outside_closing x m) BondOutsideClosingMonth next later
-      (λ h. and_from _ _ (is-bond x.profile.kind h.0) (not_from_false _ (ne_eqb m months h.1)))
-      (λ e. let both = and_parts (is_bond x.profile.kind) (not (eqb m months)) e in (bond-is x.profile.kind both.0, eqb-false m months (not-true _ both.1))) rest
-
-  passed : (s : ℕ) (d : Denominator) → ((w : ℕ) × (d ≡ at_least w) × (w < s)) → passes s d ≡ true
-  passed s (at_least v) h = let same : v ≡ h.0 = cc h.1 in lt-ltb v s (omega (arith, h.2))
-  passed s whole h = let z : ◌≡◌ {A = ℕ} 0 1 = cc h.1 in absurd (omega arith)
-
-  past : (s : ℕ) (d : Denominator) → passes s d ≡ true → ((w : ℕ) × (d ≡ at_least w) × (w < s))
-  past s (at_least v) e = (v, refl, ltb-true v s e)
-  past s whole e = absurd cc
+      (Decides-and (is_bond x.profile.kind) (not (eqb m months)) (bond-is x.profile.kind) (Decides-not (eqb m months) (eqb-true m months, eq-eqb m months))) rest
 
   due-lent : (t : Tables) (qs : List PlainPosition)
       → FirstDue ((ExposureTooLarge due_if OfOpen id p (λ y. most_exposure < exposure_to y qs)) ∷ (BondAboveDenominator due_if OfOpen id p (BondPasses t qs)) ∷ []) (too_much_lent t x qs)
   due-lent t qs =
-      due-found (λ y. most_exposure < exposure_to y qs) (ltb most_exposure (exposure_to x qs)) ExposureTooLarge _ _ (lt-ltb most_exposure (exposure_to x qs)) (ltb-true most_exposure (exposure_to x qs))
+      due-found (λ y. most_exposure < exposure_to y qs) (ltb most_exposure (exposure_to x qs)) ExposureTooLarge _ _ (Decides-ltb most_exposure (exposure_to x qs))
       (due-found (BondPasses t qs) (is_bond x.profile.kind && passes (exposure_to x qs) (denominator_of t x)) BondAboveDenominator None []
-      (λ h. and_from _ _ (is-bond x.profile.kind h.0) (passed (exposure_to x qs) (denominator_of t x) h.1))
-      (λ e. let both = and_parts (is_bond x.profile.kind) (passes (exposure_to x qs) (denominator_of t x)) e in (bond-is x.profile.kind both.0, past (exposure_to x qs) (denominator_of t x) both.1)) none-due)
+      (Decides-and (is_bond x.profile.kind) (passes (exposure_to x qs) (denominator_of t x)) (bond-is x.profile.kind) (passed (exposure_to x qs) (denominator_of t x))) none-due)
 
 -- ---- openings
 
@@ -168,48 +140,15 @@ kind-of-number Vehicle = refl
 kind-of-number GeneralLoan = refl
 kind-of-number Bond = refl
 
-number_by : (n j : ℕ) (a k : Kind) (rest : Option Kind) → kind_number a ≡ j → (rest ≡ Some k → kind_number k ≡ n) → cond (eqb n j) (Some a) rest ≡ Some k → kind_number k ≡ n
-number_by n j a k rest at next e = by (eqb n j) refl e
-  where
-    by : (t : Bool) → eqb n j ≡ t → cond t (Some a) rest ≡ Some k → kind_number k ≡ n
-    by true h e = let same : a ≡ k = cc in ap kind_number (sym same) ∙ at ∙ sym (eqb-true n j h)
-    by false h e = next e
-
-number-of-kind : (n : ℕ) (k : Kind) → kind_numbered n ≡ Some k → kind_number k ≡ n
-number-of-kind n k e =
-    number_by n 1 Project k _ refl
-    (number_by n 2 PropertyDevelopment k _ refl
-    (number_by n 3 PropertyPurchase k _ refl
-    (number_by n 4 Vehicle k _ refl
-    (number_by n 5 GeneralLoan k _ refl
-    (number_by n 6 Bond k None refl (λ h. absurd (none-some k h))))))) e
-
--- what checked fields have become
-record Profiled (f : InvesteeFields) (x : Profile) : Type 0 where
-  same_id : x.id ≡ f.id
-  same_kind : kind_numbered f.kind ≡ Some x.kind
-  same_figures : x.figures ≡ f.figures
-
-profiled-from : (f : InvesteeFields) (k : Option Kind) (z : Option Size) (x : Profile) → kind_numbered f.kind ≡ k → profiled f k z ≡ Ok x → Profiled f x
-profiled-from f None z x p e = absurd cc
-profiled-from f (Some k) None x p e = absurd cc
-profiled-from f (Some k) (Some z) x p e = by (numbers_in_range f) e
-  where
-    by : (t : Bool) → cond t (Ok (profile f k z)) out_of_range ≡ Ok x → Profiled f x
-    by true e =
-        let same : profile f k z ≡ x = cc in
-        subst (Profiled f) same (record { same_id = refl; same_kind = p; same_figures = refl })
-    by false e = absurd cc
-
-due-fields : (f : InvesteeFields) (next : Profile → Option Fault) (later : List Case) → ((x : Profile) → profile_of f ≡ Ok x → Profiled f x → FirstDue later (next x))
+due-fields : (f : InvesteeFields) (next : Profile → Option Fault) (later : List Case) → ((x : Profile) → profile_of f ≡ Ok x → SameNumbers f x → FirstDue later (next x))
     → FirstDue ((FieldOutOfRange due_if (WithinRanges f → ⊥)) ∷ later) (if_in_range (profile_of f) next)
 unfolding FirstDue
 due-fields f next later rest = by (profile_of f) refl
   where
     by : (r : Result Profile Fault) → profile_of f ≡ r → FirstDue ((FieldOutOfRange due_if (WithinRanges f → ⊥)) ∷ later) (if_in_range r next)
     by (Ok x) e = (
-      λ g h. let wrong : profile_of f ≡ out_of_range = (checks-ranges f).refused h.0 in absurd cc,
-      λ none. rest x e (profiled-from f (kind_numbered f.kind) (size_numbered f.size) x refl e),
+      λ g h. absurd (h.0 (within-accepted f x e).0),
+      λ none. rest x e (within-accepted f x e).1,
     )
     by (Err g) e = (
       λ h due.
@@ -237,42 +176,42 @@ due-based (Err e) C G next later range c-to c-from g-to g-from rest = by range
     )
 
 -- the rule refuses the fields just where its table refuses the profile
-rule-refuses : (t : Tables) (f : InvesteeFields) (x : Profile) (refusal : Refusal) → Profiled f x → RuleRefuses t f refusal → t.bases x.kind x.figures ≡ Err refusal
+rule-refuses : (t : Tables) (f : InvesteeFields) (x : Profile) (refusal : Refusal) → SameNumbers f x → RuleRefuses t f refusal → t.bases x.kind x.figures ≡ Err refusal
 rule-refuses t f x refusal has h =
-    let one : Some h.0 ≡ Some x.kind = sym (kind-of-number h.0) ∙ ap kind_numbered h.1 ∙ has.same_kind in
+    let one : Some h.0 ≡ Some x.kind = sym (kind-of-number h.0) ∙ ap kind_numbered (h.1 ∙ sym has.same_kind) ∙ kind-of-number x.kind in
     let kind : h.0 ≡ x.kind = cc in
     ap₂ t.bases (sym kind) has.same_figures ∙ h.2
 
-refuses-rule : (t : Tables) (f : InvesteeFields) (x : Profile) (refusal : Refusal) → Profiled f x → t.bases x.kind x.figures ≡ Err refusal → RuleRefuses t f refusal
-refuses-rule t f x refusal has e = (x.kind, number-of-kind f.kind x.kind has.same_kind, ap (t.bases x.kind) (sym has.same_figures) ∙ e)
+refuses-rule : (t : Tables) (f : InvesteeFields) (x : Profile) (refusal : Refusal) → SameNumbers f x → t.bases x.kind x.figures ≡ Err refusal → RuleRefuses t f refusal
+refuses-rule t f x refusal has e = (x.kind, has.same_kind, ap (t.bases x.kind) (sym has.same_figures) ∙ e)
 
 -- ---- the calls
 
 pub refused-when-due : RefusedWhenDue
 refused-when-due t lawful p (enter f meaning) =
     due-fields f _ _ (λ x ok has.
-    due-refuse (is_open f.id p ≡ true) (is_open x.id p) AlreadyOpen _ _ (λ h. ap (λ id. is_open id p) has.same_id ∙ h) (λ h. ap (λ id. is_open id p) (sym has.same_id) ∙ h) (λ _.
-    due-refuse (most_investees ≤ length p.investees) (leb most_investees (length p.investees)) InvesteesFull _ _ (le-leb most_investees (length p.investees)) (leb-true most_investees (length p.investees)) (λ _.
+    due-refuse (is_open f.id p ≡ true) (is_open x.id p) AlreadyOpen _ _ (λ h. ap (λ id. is_open id p) (sym has.same_id) ∙ h, λ h. ap (λ id. is_open id p) has.same_id ∙ h) (λ _.
+    due-refuse (most_investees ≤ length p.investees) (leb most_investees (length p.investees)) InvesteesFull _ _ (leb-true most_investees (length p.investees), le-leb most_investees (length p.investees)) (λ _.
     due-based (t.bases x.kind x.figures) (RuleRefuses t f KindNotCovered) (RuleRefuses t f FigureNotGiven) _ _ (lawful.bases_in_range x.kind x.figures (checked-figures f x ok))
     (rule-refuses t f x KindNotCovered has) (refuses-rule t f x KindNotCovered has) (rule-refuses t f x FigureNotGiven has) (refuses-rule t f x FigureNotGiven has)
     (due-source meaning below_zero _ (λ r e. due_below meaning r e)))))
 refused-when-due t lawful p (restate id meaning) = due-open id p _ _ (λ x found. due-source meaning below_zero _ (λ r e. due_below meaning r e))
 refused-when-due t lawful p (reduce id meaning) = due-open id p _ _ (λ x found. due-source meaning (λ r. None) _ (λ r e. none-due))
 refused-when-due t lawful p (post b id m v) =
-    due-refuse (NoEntry b m v) (entry_out_of_range b m v) EntryOutOfRange _ _ (entry-out b m v) (out-entry b m v) (λ _.
+    due-refuse (NoEntry b m v) (entry_out_of_range b m v) EntryOutOfRange _ _ (entry-out b m v) (λ _.
     due-open id p _ _ (λ x found.
     due-outside id p x found m _ _
-    (due-refuse (is_posted b id m p.positions ≡ true) (is_posted b id m p.positions) MonthAlreadyPosted _ _ (λ h. h) (λ h. h) (λ _.
-    due-refuse ((is_some (position_of b id p.positions) ≡ false) × (most_positions ≤ length p.positions)) (no_room_for b id p.positions) PositionsFull _ _ (full b id p.positions) (no_room b id p.positions) (λ _.
+    (due-refuse (is_posted b id m p.positions ≡ true) (is_posted b id m p.positions) MonthAlreadyPosted _ _ (λ h. h, λ h. h) (λ _.
+    due-refuse ((is_some (position_of b id p.positions) ≡ false) × (most_positions ≤ length p.positions)) (no_room_for b id p.positions) PositionsFull _ _ (full b id p.positions) (λ _.
     due-lent id p x found t (posted b id m v p.positions))))))
 refused-when-due t lawful p (amend b id m v) =
-    due-refuse (NoEntry b m v) (entry_out_of_range b m v) EntryOutOfRange _ _ (entry-out b m v) (out-entry b m v) (λ _.
+    due-refuse (NoEntry b m v) (entry_out_of_range b m v) EntryOutOfRange _ _ (entry-out b m v) (λ _.
     due-open id p _ _ (λ x found.
     due-outside id p x found m _ _
-    (due-refuse (is_posted b id m p.positions ≡ false) (not (is_posted b id m p.positions)) MonthNotPosted _ _ (not_from_false _) (not-true _) (λ _.
+    (due-refuse (is_posted b id m p.positions ≡ false) (not (is_posted b id m p.positions)) MonthNotPosted _ _ (not-true _, not_from_false _) (λ _.
     due-lent id p x found t (amended b id m v p.positions)))))
 refused-when-due t lawful p (ask_part id b) =
-    due-refuse (NoBranch b) (branch_out_of_range b) EntryOutOfRange _ _ (branch-out b) (out-branch b) (λ _. due-open id p _ _ (λ x found. none-due))
+    due-refuse (NoBranch b) (branch_out_of_range b) EntryOutOfRange _ _ (branch-out b) (λ _. due-open id p _ _ (λ x found. none-due))
 refused-when-due t lawful p (ask_total id) = due-open id p _ _ (λ x found. none-due)
-refused-when-due t lawful p (ask_sheet b) = due-refuse (NoBranch b) (branch_out_of_range b) EntryOutOfRange _ _ (branch-out b) (out-branch b) (λ _. none-due)
+refused-when-due t lawful p (ask_sheet b) = due-refuse (NoBranch b) (branch_out_of_range b) EntryOutOfRange _ _ (branch-out b) (λ _. none-due)
 refused-when-due t lawful p ask_book_total = none-due

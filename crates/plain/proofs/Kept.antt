@@ -22,10 +22,9 @@ use Rattle.plain.specs.PlainBook.{PlainInvestee, PlainPosition, PlainBook, empty
 use Rattle.plain.specs.Refused.{declined, too_much_lent, below_zero}
 use Rattle.plain.specs.Runs.{unless, after}
 use Rattle.plain.specs.Steps.{Meaning, Step, enter, restate, reduce, post, amend, ask_part, ask_total, ask_sheet, ask_book_total, WithinSourceLimits}
-use Rattle.plain.proofs.Accepted.{refuse-none, if_open-none, if_read-none, opened-none, posted-none, amended-none}
+use Rattle.plain.proofs.Accepted.{checked-figures, refuse-none, if_open-none, if_read-none, opened-none, posted-none, amended-none}
 use Rattle.plain.proofs.Lists.{none_passes, still-found, found-by-key, found-changed, length-change, all-change, pairwise-change, pairwise-push, all_both}
 use Rattle.plain.proofs.Positions.{all-with-position, length-with-position, differ-with-position, new-in-range, length-amended, differ-amended, in-range-amended, all-amended, others-amended, others-posted}
-use Rattle.plain.proofs.Profiles.{checked-figures}
 
 pub kept-at-first : KeptByEveryRun empty
 unfolding Pairwise

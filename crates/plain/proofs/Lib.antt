@@ -8,7 +8,6 @@ pub mod Kilograms
 pub mod ShutOut
 pub mod Accepted
 pub mod Positions
-pub mod Profiles
 pub mod Kept
 pub mod UnderRule
 pub mod EveryRun

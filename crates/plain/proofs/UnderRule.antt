@@ -20,11 +20,10 @@ use Rattle.plain.specs.PlainBook.{PlainInvestee, PlainPosition, PlainBook, empty
 use Rattle.plain.specs.Refused.{declined, too_much_lent, passes}
 use Rattle.plain.specs.Runs.{unless, after}
 use Rattle.plain.specs.Steps.{Meaning, Step, enter, restate, reduce, post, amend, ask_part, ask_total, ask_sheet, ask_book_total, WithinSourceLimits}
-use Rattle.plain.proofs.Accepted.{refuse-none, opened-none, posted-none, amended-none}
+use Rattle.plain.proofs.Accepted.{checked-figures, refuse-none, opened-none, posted-none, amended-none}
 use Rattle.plain.proofs.Kept.{no-positions, no-position-yet, exposures-entered, same-profile}
 use Rattle.plain.proofs.Lists.{all-change}
 use Rattle.plain.proofs.Positions.{others-amended, others-posted}
-use Rattle.plain.proofs.Profiles.{checked-figures}
 
 -- a bond's exposure does not pass its denominator
 abbrev Bounded : Tables → PlainInvestee → ℕ → Type 0

@@ -1,5 +1,5 @@
 -- Fields are accepted exactly when each is within its range.
-use Rattle.std.proofs.Common.{◌≡◌, ℕ, zero, suc, ◌<◌, ◌≤◌, true, leb, ◌⊎◌, Some, None, Ok, Option, sym, refl, ◌∙◌, inl, inr, ⊎_elim, arith}
+use Rattle.std.proofs.Common.{◌≡◌, ℕ, zero, suc, ◌<◌, ◌≤◌, true, leb, ◌⊎◌, Some, None, Ok, Option, refl, subst, inl, inr, ⊎_elim, arith}
 use Rattle.std.proofs.lemmas.Bool.Decides.{nat_tests}
 use Rattle.std.proofs.lemmas.Bool.{leb-true, and_parts, cond_both, cases_lt}
 use Rattle.rules.specs.declared.kinds.Kind.{Kind}
@@ -32,9 +32,6 @@ size-from-number (suc (suc (suc (suc zero)))) low high = (Micro, refl, refl)
 size-from-number (suc (suc (suc (suc (suc zero))))) low high = (Person, refl, refl)
 size-from-number (suc (suc (suc (suc (suc (suc n)))))) low high = absurd (omega arith)
 
-none-some : {X : Type 0} (x : X) → None ≡ Some x → ⊥
-none-some x e = let z : ◌≡◌ {A = ℕ} 0 1 = cc in omega arith
-
 or-outside : (n m : ℕ) → ((n ≡ 0) ⊎ (m < n)) ⊎ ((1 ≤ n) × (n ≤ m))
 or-outside n m =
     ⊎_elim (λ h. inl (inl (omega arith))) (λ h. ⊎_elim (λ l. inl (inr l)) (λ l. inr (h, l)) (cases_lt m n)) (cases_lt n 1)
@@ -43,14 +40,14 @@ or-outside n m =
 kind-number : (n : ℕ) (k : Kind) → kind_numbered n ≡ Some k → (1 ≤ n) × (n ≤ 6)
 kind-number n k e =
     ⊎_elim
-    (λ h. let none : kind_numbered n ≡ None = grind (arith, nat_tests) in absurd (none-some k (sym none ∙ e)))
+    (λ h. let none : kind_numbered n ≡ None = grind (arith, nat_tests) in absurd cc)
     (λ h. (omega arith, omega arith))
     (or-outside n 6)
 
 size-number : (n : ℕ) (z : Size) → size_numbered n ≡ Some z → (1 ≤ n) × (n ≤ 5)
 size-number n z e =
     ⊎_elim
-    (λ h. let none : size_numbered n ≡ None = grind (arith, nat_tests) in absurd (none-some z (sym none ∙ e)))
+    (λ h. let none : size_numbered n ≡ None = grind (arith, nat_tests) in absurd cc)
     (λ h. (omega arith, omega arith))
     (or-outside n 5)
 
@@ -98,17 +95,30 @@ accepted-within f w =
       record { same_id = refl; same_kind = k.2; same_sector = refl; same_size = z.2; same_days = refl; same_figures = refl },
     )
 
-refused-where : (f : InvesteeFields) (k : Option Kind) (z : Option Size) → kind_numbered f.kind ≡ k → size_numbered f.size ≡ z → (WithinRanges f → ⊥) → profiled f k z ≡ out_of_range
-refused-where f (Some k) (Some z) p q h =
-    let kind = kind-number f.kind k p in
-    let size = size-number f.size z q in
-    cond_both (numbers_in_range f) (Ok (profile f k z)) out_of_range (λ r. r ≡ out_of_range)
-    (λ e. absurd (h (numbers-within f e kind.0 kind.1 size.0 size.1))) (λ _. refl)
-refused-where f (Some k) None p q h = refl
-refused-where f None z p q h = refl
+within-or-refused : (f : InvesteeFields) → WithinRanges f ⊎ (profile_of f ≡ out_of_range)
+within-or-refused f = by (kind_numbered f.kind) (size_numbered f.size) refl refl
+  where
+    by : (k : Option Kind) (z : Option Size) → kind_numbered f.kind ≡ k → size_numbered f.size ≡ z → WithinRanges f ⊎ (profiled f k z ≡ out_of_range)
+    by (Some k) (Some z) p q =
+        let kind = kind-number f.kind k p in
+        let size = size-number f.size z q in
+        cond_both (numbers_in_range f) (Ok (profile f k z)) out_of_range (λ r. WithinRanges f ⊎ (r ≡ out_of_range))
+        (λ e. inl (numbers-within f e kind.0 kind.1 size.0 size.1)) (λ _. inr refl)
+    by (Some k) None p q = inr refl
+    by None z p q = inr refl
 
 pub refused-outside : (f : InvesteeFields) → (WithinRanges f → ⊥) → profile_of f ≡ out_of_range
-refused-outside f h = refused-where f (kind_numbered f.kind) (size_numbered f.size) refl refl h
+refused-outside f h = ⊎_elim (λ w. absurd (h w)) (λ r. r) (within-or-refused f)
+
+-- what is accepted was within its ranges, and has the fields' numbers
+pub within-accepted : (f : InvesteeFields) (p : Profile) → profile_of f ≡ Ok p → WithinRanges f × SameNumbers f p
+within-accepted f p e =
+    ⊎_elim
+    (λ w. let one = accepted-within f w in
+    let same : one.0 ≡ p = cc (one.1, e) in
+    (w, subst (SameNumbers f) same one.2))
+    (λ r. absurd cc)
+    (within-or-refused f)
 
 pub checks-ranges : (f : InvesteeFields) → Checked f (profile_of f)
 checks-ranges f = record { accepted = accepted-within f; refused = refused-outside f }
