@@ -158,21 +158,21 @@ due-fields f next later rest = by (profile_of f) refl
       λ none. absurd (none (fault FieldOutOfRange 0 0) (λ w. let right = ((checks-ranges f).accepted w).1 in absurd cc, refl)),
     )
 
-due-based : (r : Result Base Refusal) (NotCovered NotGiven : Type 0) (next : Option Fault) (later : List Case) → BaseInRange r
-    → (NotCovered → r ≡ Err KindNotCovered) → (r ≡ Err KindNotCovered → NotCovered) → (NotGiven → r ≡ Err FigureNotGiven) → (r ≡ Err FigureNotGiven → NotGiven) → FirstDue later next
-    → FirstDue ((KindNotCovered due_if NotCovered) ∷ (FigureNotGiven due_if NotGiven) ∷ later) (if_based r next)
+due-based : (r : Result Base Refusal) (Refuses : Refusal → Type 0) (next : Option Fault) (later : List Case) → BaseInRange r
+    → ((e : Refusal) → Refuses e → r ≡ Err e) → ((e : Refusal) → r ≡ Err e → Refuses e) → FirstDue later next
+    → FirstDue ((KindNotCovered due_if Refuses KindNotCovered) ∷ (FigureNotGiven due_if Refuses FigureNotGiven) ∷ later) (if_based r next)
 unfolding FirstDue
-due-based (Ok b) C G next later range c-to c-from g-to g-from rest = (
-  λ f h. let e = c-to h.0 in absurd cc,
-  λ _. (λ f h. let e = g-to h.0 in absurd cc, λ _. rest),
+due-based (Ok b) Refuses next later range to from rest = (
+  λ f h. let e = to KindNotCovered h.0 in absurd cc,
+  λ _. (λ f h. let e = to FigureNotGiven h.0 in absurd cc, λ _. rest),
 )
-due-based (Err e) C G next later range c-to c-from g-to g-from rest = by range
+due-based (Err e) Refuses next later range to from rest = by range
   where
-    by : (e ≡ KindNotCovered) ⊎ (e ≡ FigureNotGiven) → FirstDue ((KindNotCovered due_if C) ∷ (FigureNotGiven due_if G) ∷ later) (Some (fault e 0 0))
-    by (inl k) = (λ f h. ap Some (ap (λ r. fault r 0 0) k ∙ sym h.1), λ none. absurd (none (fault KindNotCovered 0 0) (c-from (ap Err k), refl)))
+    by : (e ≡ KindNotCovered) ⊎ (e ≡ FigureNotGiven) → FirstDue ((KindNotCovered due_if Refuses KindNotCovered) ∷ (FigureNotGiven due_if Refuses FigureNotGiven) ∷ later) (Some (fault e 0 0))
+    by (inl k) = (λ f h. ap Some (ap (λ r. fault r 0 0) k ∙ sym h.1), λ none. absurd (none (fault KindNotCovered 0 0) (from KindNotCovered (ap Err k), refl)))
     by (inr k) = (
-      λ f h. let wrong : Err e ≡ Err KindNotCovered = c-to h.0 in absurd cc,
-      λ _. (λ f h. ap Some (ap (λ r. fault r 0 0) k ∙ sym h.1), λ none. absurd (none (fault FigureNotGiven 0 0) (g-from (ap Err k), refl))),
+      λ f h. let wrong : Err e ≡ Err KindNotCovered = to KindNotCovered h.0 in absurd cc,
+      λ _. (λ f h. ap Some (ap (λ r. fault r 0 0) k ∙ sym h.1), λ none. absurd (none (fault FigureNotGiven 0 0) (from FigureNotGiven (ap Err k), refl))),
     )
 
 -- the rule refuses the fields just where its table refuses the profile
@@ -192,8 +192,7 @@ refused-when-due t lawful p (enter f meaning) =
     due-fields f _ _ (λ x ok has.
     due-refuse (is_open f.id p ≡ true) (is_open x.id p) AlreadyOpen _ _ (λ h. ap (λ id. is_open id p) (sym has.same_id) ∙ h, λ h. ap (λ id. is_open id p) has.same_id ∙ h) (λ _.
     due-refuse (most_investees ≤ length p.investees) (leb most_investees (length p.investees)) InvesteesFull _ _ (leb-true most_investees (length p.investees), le-leb most_investees (length p.investees)) (λ _.
-    due-based (t.bases x.kind x.figures) (RuleRefuses t f KindNotCovered) (RuleRefuses t f FigureNotGiven) _ _ (lawful.bases_in_range x.kind x.figures (checked-figures f x ok))
-    (rule-refuses t f x KindNotCovered has) (refuses-rule t f x KindNotCovered has) (rule-refuses t f x FigureNotGiven has) (refuses-rule t f x FigureNotGiven has)
+    due-based (t.bases x.kind x.figures) (RuleRefuses t f) _ _ (lawful.bases_in_range x.kind x.figures (checked-figures f x ok)) (λ e h. rule-refuses t f x e has h) (λ e h. refuses-rule t f x e has h)
     (due-source meaning below_zero _ (λ r e. due_below meaning r e)))))
 refused-when-due t lawful p (restate id meaning) = due-open id p _ _ (λ x found. due-source meaning below_zero _ (λ r e. due_below meaning r e))
 refused-when-due t lawful p (reduce id meaning) = due-open id p _ _ (λ x found. due-source meaning (λ r. None) _ (λ r e. none-due))

@@ -1,6 +1,7 @@
 -- The laws of whole numbers that lib.IntN lacks, and what a size (`nat_abs`) does in sums and products.
-use Rattle.std.proofs.Common.{◌≡◌, suc, ◌+◌, ◌*◌, ◌≤◌, ℤ, pos, negsuc, ◌+ℤ◌, ◌-ℤ◌, ◌*ℤ◌, neg_ℤ, nat_abs, sym, refl, ap, ◌∙◌, arith}
+use Rattle.std.proofs.Common.{◌≡◌, ◌+◌, ◌*◌, ◌≤◌, ℤ, ◌+ℤ◌, ◌-ℤ◌, ◌*ℤ◌, neg_ℤ, nat_abs, sym, ap, ◌∙◌, arith}
 use lib.IntN.{*ℤ_comm}
+pub use Rattle.std.proofs.lemmas.Int.{unsigned_abs-mul as size-mul}
 use borrow.Author.Differences.{up, down, ints, same_in, sum_is_lem, product_is, neg_is}
 
 up-mul : (a b : ℤ) → up (a *ℤ b) ≡ up a * up b + down a * down b
@@ -53,9 +54,3 @@ size-add a b = omega (arith, ints)
 
 pub size-neg : (a : ℤ) → nat_abs (neg_ℤ a) ≡ nat_abs a
 size-neg a = omega (arith, ints)
-
-pub size-mul : (a b : ℤ) → nat_abs (a *ℤ b) ≡ nat_abs a * nat_abs b
-size-mul (pos a) (pos b) = refl
-size-mul (pos a) (negsuc b) = size-neg (pos (a * suc b))
-size-mul (negsuc a) (pos b) = size-neg (pos (suc a * b))
-size-mul (negsuc a) (negsuc b) = refl

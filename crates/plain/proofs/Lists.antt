@@ -1,7 +1,11 @@
 -- Finding and changing one element of a list, and lists without two of a kind.
-use Rattle.std.proofs.Common.{◌≡◌, ℕ, suc, ◌+◌, ◌<◌, ◌≤◌, Bool, true, false, cond, not, eqb, ◌≢◌, List, [], ◌∷◌, ◌++◌, length, get_or, set, is_some, Some, None, filter, sym, refl, ap, ◌∙◌, subst, one-add, arith}
-use Rattle.std.specs.List.{prefix_len, AllByRecursion}
+use Rattle.std.proofs.Common.{◌≡◌, ℕ, suc, ◌+◌, ◌<◌, ◌≤◌, Bool, true, false, cond, not, eqb, ◌≢◌, List, [], ◌∷◌, ◌++◌, length, get_or, set, is_some, Some, None, Option, filter, sym, refl, ap, ◌∙◌, subst, one-add, arith}
+use Rattle.std.specs.List.{find, prefix_len, AllByRecursion}
+use Rattle.std.specs.Option.{option_or}
 use Rattle.std.proofs.ByRecursion.{All-weaker, All-push}
+use Rattle.std.proofs.lemmas.Option.{slice_get-get_or, slice_get_past}
+use Rattle.std.proofs.lemmas.List.Folds.{find_at, find-append}
+use Rattle.std.proofs.lemmas.List.Recursion.{same_from_clauses}
 use Rattle.std.proofs.lemmas.Bool.{eq-eqb, ne_eqb, cond-true, cond-false}
 use Rattle.plain.specs.Lists.{first_of, change_first, Pairwise}
 
@@ -10,6 +14,10 @@ all_both P Q [] p q = tt
 all_both P Q (x ∷ xs) p q = ((p.0, q.0), all_both P Q xs p.1 q.1)
 
 -- ---- the first that passes a test
+
+is_find : {X : Type 0} (test : X → Bool) (xs : List X) → first_of test xs ≡ find test xs
+unfolding first_of
+is_find test = same_from_clauses (first_of test) (find test) (λ x r. cond (test x) (Some x) r) refl (λ x xs. refl) (λ x xs. refl)
 
 pub first_passes : {X : Type 0} (test : X → Bool) (xs : List X) (y : X) → first_of test xs ≡ Some y → test y ≡ true
 unfolding first_of
@@ -39,13 +47,11 @@ none_passes {X} test (x ∷ xs) e = by (test x) refl e (none_passes test xs)
     by false p e rest = (p, rest e)
 
 pub still-found : {X : Type 0} (test : X → Bool) (xs : List X) (y : X) → is_some (first_of test xs) ≡ true → is_some (first_of test (xs ++ y ∷ [])) ≡ true
-unfolding first_of
-still-found test [] y e = absurd cc
-still-found {X} test (x ∷ xs) y e = by (test x) e (still-found test xs y)
+still-found {X} test xs y e = ap is_some (is_find test (xs ++ y ∷ []) ∙ find-append test xs (y ∷ [])) ∙ by (find test xs) (ap is_some (sym (is_find test xs)) ∙ e)
   where
-    by : (t : Bool) → is_some (cond t (Some x) (first_of test xs)) ≡ true → (is_some (first_of test xs) ≡ true → is_some (first_of test (xs ++ y ∷ [])) ≡ true) → is_some (cond t (Some x) (first_of test (xs ++ y ∷ []))) ≡ true
-    by true e rest = refl
-    by false e rest = rest e
+    by : (o : Option X) → is_some o ≡ true → is_some (option_or o (find test (y ∷ []))) ≡ true
+    by (Some x) e = refl
+    by None e = absurd cc
 
 -- each is the first of its own key, where keys differ
 pub found-by-key : {X : Type 0} (key : X → ℕ) (xs : List X) → Pairwise (λ x y. key y ≢ key x) xs → AllByRecursion (λ x. first_of (λ y. eqb (key y) (key x)) xs ≡ Some x) xs
@@ -143,23 +149,10 @@ module _ {X : Type 0} (test : X → Bool) where
   place_of xs = prefix_len (λ x. not (test x)) xs
 
   pub first-at : (xs : List X) (d : X) → place_of xs < length xs → first_of test xs ≡ Some (get_or xs (place_of xs) d)
-  unfolding first_of
-  first-at [] d h = absurd (omega arith)
-  first-at (x ∷ xs) d h = by (test x) h (first-at xs d)
-    where
-      by : (t : Bool) → cond (not t) (1 + prefix_len (λ x. not (test x)) xs) 0 < suc (length xs) → (prefix_len (λ x. not (test x)) xs < length xs → first_of test xs ≡ Some (get_or xs (prefix_len (λ x. not (test x)) xs) d))
-          → cond t (Some x) (first_of test xs) ≡ Some (get_or (x ∷ xs) (cond (not t) (1 + prefix_len (λ x. not (test x)) xs) 0) d)
-      by true l rest = refl
-      by false l rest = rw one-add (rest (omega arith))
+  first-at xs d h = is_find test xs ∙ find_at test xs ∙ slice_get-get_or xs (place_of xs) d h
 
   pub first_past : (xs : List X) → length xs ≤ place_of xs → first_of test xs ≡ None
-  unfolding first_of
-  first_past [] h = refl
-  first_past (x ∷ xs) h = by (test x) h (first_past xs)
-    where
-      by : (t : Bool) → suc (length xs) ≤ cond (not t) (1 + prefix_len (λ x. not (test x)) xs) 0 → (length xs ≤ prefix_len (λ x. not (test x)) xs → first_of test xs ≡ None) → cond t (Some x) (first_of test xs) ≡ None
-      by true l rest = absurd (omega arith)
-      by false l rest = rest (omega arith)
+  first_past xs h = is_find test xs ∙ find_at test xs ∙ slice_get_past xs (place_of xs) h
 
   pub change-at : (change : X → X) (xs : List X) (d : X) → place_of xs < length xs → change_first test change xs ≡ set xs (place_of xs) (change (get_or xs (place_of xs) d))
   unfolding change_first

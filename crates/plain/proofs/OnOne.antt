@@ -2,8 +2,9 @@
 use Rattle.std.proofs.Common.{◌≡◌, ℕ, ◌+◌, Bool, true, false, cond, eqb, ◌≢◌, List, [], ◌∷◌, length, is_some, Some, sum_by, sym, refl, ap, ◌∙◌, arith}
 use mathlib.Core.Path.{fun_ext}
 use Rattle.std.specs.List.{AllByRecursion}
-use Rattle.std.proofs.ByRecursion.{All-weaker}
-use Rattle.std.proofs.lemmas.List.Sums.{sum_by-cons}
+use Rattle.std.proofs.ByRecursion.{All-weaker, sum_by_le}
+use Rattle.std.proofs.lemmas.List.Sums.{sum_by-cons, sum_by-le}
+use Rattle.std.proofs.lemmas.List.Recursion.{is_sum_by}
 use Rattle.std.proofs.lemmas.Bool.{eqb-true, eqb-false, eq-eqb, ne_eqb, cond-true, cond-false}
 use Rattle.plain.specs.Exposures.{positions_on}
 use Rattle.plain.specs.Kept.{KeptByEveryRun}
@@ -12,12 +13,10 @@ use Rattle.plain.specs.PlainBook.{PlainInvestee, PlainPosition, PlainBook, id_of
 use Rattle.plain.specs.Readings.{positions_on_all}
 
 sum-none : {X : Type 0} (f : X → ℕ) (xs : List X) → AllByRecursion (λ x. f x ≡ 0) xs → sum_by f xs ≡ 0
-sum-none f [] all = refl
-sum-none f (x ∷ xs) all = sum_by-cons f x xs ∙ omega (arith, all.0, sum-none f xs all.1)
+sum-none f xs all = omega (arith, sum_by_le f 0 xs (All-weaker _ _ (λ x e. omega arith) xs all))
 
 sum-plus : {X : Type 0} (f g : X → ℕ) (xs : List X) → sum_by (λ x. f x + g x) xs ≡ sum_by f xs + sum_by g xs
-sum-plus f g [] = refl
-sum-plus f g (x ∷ xs) = omega (arith, sum_by-cons (λ x. f x + g x) x xs, sum_by-cons f x xs, sum_by-cons g x xs, sum-plus f g xs)
+sum-plus f g xs = sym (is_sum_by (λ xs. sum_by f xs + sum_by g xs) (λ x. f x + g x) refl (λ x xs. omega (arith, sum_by-cons f x xs, sum_by-cons g x xs)) xs)
 
 -- an id that is open is that of one investee
 one-of-key : {X : Type 0} (key : X → ℕ) (n : ℕ) (xs : List X) → Pairwise (λ x y. key y ≢ key x) xs → is_some (first_of (λ x. eqb (key x) n) xs) ≡ true → sum_by (λ x. cond (eqb n (key x)) 1 0) xs ≡ 1
@@ -38,11 +37,7 @@ one-of-key {X} key n (x ∷ xs) differ found = sum_by-cons (λ x. cond (eqb n (k
         omega (arith, elsewhere, rest h)
 
 each_on : (xs : List PlainInvestee) (qs : List PlainPosition) → Pairwise (λ x y. id_of y ≢ id_of x) xs → AllByRecursion (λ q. is_some (first_of (has_id q.id) xs) ≡ true) qs → sum_by (λ x. length (positions_on (id_of x) qs)) xs ≡ length qs
-each_on xs [] differ found = sum-none (λ x. length (positions_on (id_of x) [])) xs (all_none xs)
-  where
-    all_none : (xs : List PlainInvestee) → AllByRecursion (λ x. length (positions_on (id_of x) []) ≡ 0) xs
-    all_none [] = tt
-    all_none (x ∷ xs) = (refl, all_none xs)
+each_on xs [] differ found = omega (arith, sum_by-le (λ (x : PlainInvestee). 0) 0 xs (λ k d h. omega arith))
 each_on xs (q ∷ qs) differ found =
     ap (λ f. sum_by f xs) (fun_ext (λ x. more (eqb q.id (id_of x)) (positions_on (id_of x) qs)))
     ∙ sum-plus (λ x. cond (eqb q.id (id_of x)) 1 0) (λ x. length (positions_on (id_of x) qs)) xs

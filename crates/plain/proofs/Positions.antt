@@ -1,10 +1,10 @@
 -- What a post and an amendment leave of the positions.
-use Rattle.std.proofs.Common.{◌≡◌, ℕ, zero, suc, ◌-◌, ◌≤◌, true, false, not, eqb, leb, ◌≢◌, List, [], ◌∷◌, ◌++◌, length, replicate, is_some, Some, None, Option, unwrap_or, sym, refl, ap, ◌∙◌, ⊎_elim, arith, length-set}
+use Rattle.std.proofs.Common.{◌≡◌, ℕ, ◌-◌, ◌≤◌, true, false, not, eqb, leb, ◌≢◌, List, [], ◌∷◌, ◌++◌, length, replicate, is_some, Some, None, Option, unwrap_or, sym, refl, ap, ◌∙◌, ⊎_elim, arith, length-set}
 use lib.ListN.{length-replicate}
 use Rattle.std.specs.List.{AllByRecursion}
-use Rattle.std.proofs.lemmas.List.Elements.{filter-append}
+use Rattle.std.proofs.lemmas.List.Elements.{filter-append, All-replicate, recursion_from_All}
 use Rattle.std.proofs.ByRecursion.{All-push, All-set, All-weaker}
-use Rattle.std.proofs.lemmas.List.{length_push}
+use Rattle.std.proofs.lemmas.List.{append-nil, length_push}
 use Rattle.std.proofs.lemmas.Bool.{eqb-true, eq-eqb, ne_eqb, and_parts, and_cases, and_from, leb-false, not_from_false, both_ways, cond-false, cond_both}
 use Rattle.rules.specs.Months.{months}
 use Rattle.plain.specs.Branches.{Branch}
@@ -48,18 +48,14 @@ module _ (b id : ℕ) (qs : List PlainPosition) where
   pub others-with-position : (j : ℕ) → j ≢ id → positions_on j (with_position b id qs) ≡ positions_on j qs
   others-with-position j ne =
       cond_both (is_some (position_of b id qs)) _ _ (λ rs. positions_on j rs ≡ positions_on j qs) (λ e. refl)
-      (λ e. filter-append (λ q. eqb q.id j) qs (new_position b id ∷ []) ∙ ap (λ rs. positions_on j qs ++ rs) (cond-false (eqb id j) _ _ (ne_eqb id j (λ h. ne (sym h)))) ∙ append-none (positions_on j qs))
-    where
-      append-none : (rs : List PlainPosition) → rs ++ [] ≡ rs
-      append-none [] = refl
-      append-none (r ∷ rs) = ap (λ l. r ∷ l) (append-none rs)
-
-all_replicate : {X : Type 0} (P : X → Type 0) (n : ℕ) (y : X) → P y → AllByRecursion P (replicate n y)
-all_replicate P zero y h = tt
-all_replicate P (suc n) y h = (h, all_replicate P n y h)
+      (λ e. filter-append (λ q. eqb q.id j) qs (new_position b id ∷ []) ∙ ap (λ rs. positions_on j qs ++ rs) (cond-false (eqb id j) _ _ (ne_eqb id j (λ h. ne (sym h)))) ∙ append-nil (positions_on j qs))
 
 pub new-in-range : (b id : ℕ) → Branch b → PositionInRange (new_position b id)
-new-in-range b id h = record { branch_in_range = h; a_place_for_each_month = length-replicate {A = Option ℕ} months None; balances_within_limit = all_replicate (λ v. unwrap_or v 0 ≤ most_balance) months None (omega arith) }
+new-in-range b id h = record {
+  branch_in_range = h;
+  a_place_for_each_month = length-replicate {A = Option ℕ} months None;
+  balances_within_limit = recursion_from_All (λ v. unwrap_or v 0 ≤ most_balance) (replicate months None) (All-replicate (λ v. unwrap_or v 0 ≤ most_balance) months None (omega arith));
+}
 
 -- ---- one balance
 

@@ -19,10 +19,7 @@ sum-zero (x ∷ xs) = +ℤ_idl (sum_over xs (λ x. pos 0)) ∙ sum-zero xs
 pub sum-add : {X : Type 0} (xs : List X) (f g : X → ℤ) → sum_over xs (λ x. f x +ℤ g x) ≡ sum_over xs f +ℤ sum_over xs g
 unfolding sum_over
 sum-add [] f g = refl
-sum-add (x ∷ xs) f g = ap (λ z. (f x +ℤ g x) +ℤ z) (sum-add xs f g) ∙ regroup (f x) (g x) (sum_over xs f) (sum_over xs g)
-  where
-    regroup : (a b c d : ℤ) → (a +ℤ b) +ℤ (c +ℤ d) ≡ (a +ℤ c) +ℤ (b +ℤ d)
-    regroup a b c d = omega (arith, linear)
+sum-add (x ∷ xs) f g = rw (sum-add xs f g) (omega (arith, linear))
 
 -- two sums in either order
 pub sum-swap : {X Y : Type 0} (xs : List X) (ys : List Y) (f : X → Y → ℤ) → sum_over xs (λ x. sum_over ys (λ y. f x y)) ≡ sum_over ys (λ y. sum_over xs (λ x. f x y))
@@ -48,18 +45,14 @@ unfolding sum_over down_from
 sum-pick zero k x g low high z = absurd (omega arith)
 sum-pick (suc n) k x g low high z = by (cases_eq k (suc n)) (sum-pick n k x g low)
   where
-    swap : (a b c : ℤ) → a +ℤ (b +ℤ c) ≡ b +ℤ (a +ℤ c)
-    swap a b c = omega (arith, linear)
-
     by : (k ≡ suc n) ⊎ (k ≡ suc n → ⊥)
         → (k ≤ n → g k ≡ pos 0 → sum_over (down_from n) (λ b. cond (eqb k b) x (g b)) ≡ x +ℤ sum_over (down_from n) g)
         → cond (eqb k (suc n)) x (g (suc n)) +ℤ sum_over (down_from n) (λ b. cond (eqb k b) x (g b)) ≡ x +ℤ (g (suc n) +ℤ sum_over (down_from n) g)
     by (inl e) ih =
-        ap₂ ◌+ℤ◌ (cond-true (eqb k (suc n)) x (g (suc n)) (eq-eqb k (suc n) e)) (past-pick n k x g (omega arith))
-        ∙ ap (λ z'. x +ℤ z') (sym (ap (λ z'. z' +ℤ sum_over (down_from n) g) (ap g (sym e) ∙ z) ∙ +ℤ_idl (sum_over (down_from n) g)))
+        let none : g (suc n) ≡ pos 0 = ap g (sym e) ∙ z in
+        rw (cond-true (eqb k (suc n)) x (g (suc n)) (eq-eqb k (suc n) e), past-pick n k x g (omega arith), none) (omega (arith, linear))
     by (inr e) ih =
-        ap₂ ◌+ℤ◌ (cond-false (eqb k (suc n)) x (g (suc n)) (ne_eqb k (suc n) e)) (ih (omega arith) z)
-        ∙ swap (g (suc n)) x (sum_over (down_from n) g)
+        rw (cond-false (eqb k (suc n)) x (g (suc n)) (ne_eqb k (suc n) e), ih (omega arith) z) (omega (arith, linear))
 
 -- termwise, for the terms of the list alone
 pub sum-all : {X : Type 0} (xs : List X) (f g : X → ℤ) → AllByRecursion (λ x. f x ≡ g x) xs → sum_over xs f ≡ sum_over xs g
@@ -86,13 +79,7 @@ unfolding sum_over
 sum-split test f [] = refl
 sum-split {X} test f (x ∷ xs) = by (test x) (sum-split test f xs)
   where
-    with_first : (a b c : ℤ) → (a +ℤ b) +ℤ c ≡ a +ℤ (b +ℤ c)
-    with_first a b c = omega (arith, linear)
-
-    with_second : (a b c : ℤ) → b +ℤ (a +ℤ c) ≡ a +ℤ (b +ℤ c)
-    with_second a b c = omega (arith, linear)
-
     by : (t : Bool) → sum_over (filter test xs) f +ℤ sum_over (filter (λ y. not (test y)) xs) f ≡ sum_over xs f
         → sum_over (cond t (x ∷ filter test xs) (filter test xs)) f +ℤ sum_over (cond (not t) (x ∷ filter (λ y. not (test y)) xs) (filter (λ y. not (test y)) xs)) f ≡ f x +ℤ sum_over xs f
-    by true rest = with_first (f x) _ _ ∙ ap (λ z. f x +ℤ z) rest
-    by false rest = with_second (f x) _ _ ∙ ap (λ z. f x +ℤ z) rest
+    by true rest = rw (sym rest) (omega (arith, linear))
+    by false rest = rw (sym rest) (omega (arith, linear))
