@@ -13,11 +13,12 @@ use Rattle.rules.specs.declared.investees.Profile.{Profile}
 use Rattle.sources.specs.declared.reading.Reading.{Reading}
 use Rattle.rules.proofs.Ranges.{within-accepted}
 use Rattle.plain.specs.Branches.{Branch, branch_count}
-use Rattle.plain.specs.Changes.{posted, amended}
+use Rattle.plain.specs.Changes.{posted, amended, changed}
 use Rattle.plain.specs.Limits.{most_investees, most_balance}
 use Rattle.plain.specs.PlainBook.{PlainInvestee, PlainPosition, PlainBook, investee_of, is_open, is_posted}
 use Rattle.plain.specs.Refused.{refuse, if_open, if_in_range, if_based, if_read, branch_out_of_range, entry_out_of_range, bond_outside_closing, no_room_for, too_much_lent, below_zero, declined}
-use Rattle.plain.specs.Steps.{Meaning, enter, post, amend}
+use Rattle.plain.specs.Runs.{unless, after}
+use Rattle.plain.specs.Steps.{Meaning, Step, enter, post, amend}
 
 -- ---- one refusal
 
@@ -40,6 +41,14 @@ if_based-none (Err f) next e = absurd cc
 pub if_read-none : (o : Meaning) (next : Reading → Option Fault) → if_read o next ≡ None → (r : Reading) × (o ≡ Ok r) × (next r ≡ None)
 if_read-none (Ok r) next e = (r, refl, e)
 if_read-none (Err f) next e = absurd cc
+
+-- what an accepted call keeps, every call keeps
+pub by-a-call : (t : Tables) (p : PlainBook) (c : Step) (P : PlainBook → Type 0) → P p → (declined t p c ≡ None → P (changed p c)) → P (after t p c)
+by-a-call t p c P ok accepted = by (declined t p c) refl
+  where
+    by : (o : Option Fault) → declined t p c ≡ o → P (unless o (changed p c) (λ f. p))
+    by None e = accepted e
+    by (Some f) e = ok
 
 -- ---- ranges
 

@@ -1,5 +1,5 @@
 -- What every run keeps: the empty book has it, and each call keeps it.
-use Rattle.std.proofs.Common.{◌≡◌, ℕ, ◌<◌, ◌≤◌, Bool, true, false, cond, eqb, ltb, ◌≢◌, List, [], ◌∷◌, ◌++◌, map, length, pos, ◌≤ℤ◌, is_some, Some, None, Ok, Err, Option, Result, sym, refl, ap, ◌∙◌, subst, ap₂, ⊎_elim, arith}
+use Rattle.std.proofs.Common.{◌≡◌, ℕ, ◌<◌, ◌≤◌, Bool, true, false, cond, eqb, ltb, ◌≢◌, List, [], ◌∷◌, ◌++◌, map, length, pos, ◌≤ℤ◌, is_some, Some, None, Ok, Err, Result, sym, refl, ap, ◌∙◌, subst, ap₂, ⊎_elim, arith, rules}
 use lib.Signed.{lt_z}
 use Rattle.std.specs.List.{AllByRecursion}
 use Rattle.std.proofs.ByRecursion.{All-push, All-weaker}
@@ -12,32 +12,23 @@ use Rattle.rules.specs.Tables.{Tables}
 use Rattle.rules.specs.declared.investees.Profile.{Profile}
 use Rattle.sources.specs.Readings.{WithinLimits, InLimits}
 use Rattle.sources.specs.declared.reading.Reading.{Reading}
-use Rattle.plain.specs.Changes.{opened, restated, reduced_by, read_into, added, with_position, amended, posted, changed}
+use Rattle.plain.specs.Changes.{opened, restated, reduced_by, read_into, added, with_position, amended, changed}
 use Rattle.plain.specs.Exposures.{exposure_to, lent_by, positions_on}
 use Rattle.plain.specs.Kept.{InvesteeInRange, PositionInRange, KeptByEveryRun}
-use Rattle.plain.specs.Limits.{most_investees, most_exposure}
+use Rattle.plain.specs.Limits.{most_investees, most_positions, most_exposure}
 use Rattle.plain.specs.Lists.{first_of, change_first, Pairwise}
 use Rattle.plain.specs.Parts.{exposures}
-use Rattle.plain.specs.PlainBook.{PlainInvestee, PlainPosition, PlainBook, empty, with_investees, id_of, has_id, investee_of, is_open}
+use Rattle.plain.specs.PlainBook.{PlainInvestee, PlainPosition, PlainBook, empty, with_investees, with_positions, id_of, has_id, investee_of, is_open}
 use Rattle.plain.specs.Refused.{declined, too_much_lent, below_zero}
-use Rattle.plain.specs.Runs.{unless, after}
+use Rattle.plain.specs.Runs.{after}
 use Rattle.plain.specs.Steps.{Meaning, Step, enter, restate, reduce, post, amend, ask_part, ask_total, ask_sheet, ask_book_total, WithinSourceLimits}
-use Rattle.plain.proofs.Accepted.{checked-figures, refuse-none, if_open-none, if_read-none, opened-none, posted-none, amended-none}
+use Rattle.plain.proofs.Accepted.{by-a-call, Entered, checked-figures, refuse-none, if_open-none, if_read-none, opened-none, posted-none, amended-none}
 use Rattle.plain.proofs.Lists.{none_passes, still-found, found-by-key, found-changed, length-change, all-change, pairwise-change, pairwise-push, all_both}
-use Rattle.plain.proofs.Positions.{all-with-position, length-with-position, differ-with-position, new-in-range, length-amended, differ-amended, in-range-amended, all-amended, others-amended, others-posted}
+use Rattle.plain.proofs.Positions.{Differ, all-with-position, length-with-position, differ-with-position, new-in-range, length-amended, differ-amended, in-range-amended, all-amended, others-amended, others-posted}
 
 pub kept-at-first : KeptByEveryRun empty
 unfolding Pairwise
-kept-at-first = record {
-  investees_within_limit = omega arith;
-  positions_within_limit = omega arith;
-  investees_in_range = tt;
-  positions_in_range = tt;
-  ids_differ = tt;
-  positions_on_open_investees = tt;
-  positions_differ = tt;
-  exposures_within_limit = tt;
-}
+kept-at-first = search rules
 
 -- ---- openings
 
@@ -59,14 +50,7 @@ read-limits : (m : Meaning) (r : Reading) → m ≡ Ok r → WithinLimits m → 
 read-limits m r e h = subst WithinLimits e h
 
 opened-in-range : (x : Profile) (r : Reading) → figures.WithinLimits x.figures → InLimits r → below_zero r ≡ None → InvesteeInRange (opened x r)
-opened-in-range x r figures limits e = record {
-  figures_within_limits = figures;
-  kilograms_within_limit = limits.size;
-  kilograms_not_below_zero = not-below-zero r e;
-  reduction_within_limit = omega arith;
-  grade_from = limits.best;
-  grade_to = limits.worst;
-}
+opened-in-range x r figures limits e = search (rules, not-below-zero)
 
 -- a new id is that of no investee and of no position
 other-ids : (id : ℕ) (p : PlainBook) → is_open id p ≡ false → AllByRecursion (λ x. id ≢ id_of x) p.investees
@@ -96,24 +80,10 @@ kept-opened p x r ok is-new room figures limits below = record {
 -- ---- restatements and reductions
 
 restated-in-range : (r : Reading) (x : PlainInvestee) → InLimits r → below_zero r ≡ None → InvesteeInRange x → InvesteeInRange (restated r x)
-restated-in-range r x limits e h = record {
-  figures_within_limits = h.figures_within_limits;
-  kilograms_within_limit = limits.size;
-  kilograms_not_below_zero = not-below-zero r e;
-  reduction_within_limit = h.reduction_within_limit;
-  grade_from = limits.best;
-  grade_to = limits.worst;
-}
+restated-in-range r x limits e h = search (rules, not-below-zero)
 
 reduced-in-range : (r : Reading) (x : PlainInvestee) → InLimits r → InvesteeInRange x → InvesteeInRange (reduced_by r x)
-reduced-in-range r x limits h = record {
-  figures_within_limits = h.figures_within_limits;
-  kilograms_within_limit = h.kilograms_within_limit;
-  kilograms_not_below_zero = h.kilograms_not_below_zero;
-  reduction_within_limit = limits.size;
-  grade_from = h.grade_from;
-  grade_to = h.grade_to;
-}
+reduced-in-range r x limits h = search rules
 
 -- a change that leaves the profile as it is
 kept_read : (p : PlainBook) (id : ℕ) (change : PlainInvestee → PlainInvestee) → ((x : PlainInvestee) → (change x).profile ≡ x.profile) → ((x : PlainInvestee) → InvesteeInRange x → InvesteeInRange (change x))
@@ -153,46 +123,37 @@ exposures-entered p id x qs ok found others P before own =
 within_limit : (t : Tables) (x : PlainInvestee) (qs : List PlainPosition) → too_much_lent t x qs ≡ None → exposure_to x qs ≤ most_exposure
 within_limit t x qs e = ltb-false most_exposure (exposure_to x qs) (refuse-none (ltb most_exposure (exposure_to x qs)) _ _ e).0
 
-is-open : (id : ℕ) (p : PlainBook) (x : PlainInvestee) → investee_of id p ≡ Some x → is_open id p ≡ true
-is-open id p x e = ap is_some e
+-- an entry on positions that have what the book's own have
+kept-entered : (t : Tables) (p : PlainBook) (b id m v : ℕ) (was : Bool) (qs : List PlainPosition) → KeptByEveryRun p → Entered t p b id m v was (amended b id m v qs)
+    → length qs ≤ most_positions → AllByRecursion PositionInRange qs → AllByRecursion (λ q. is_open q.id p ≡ true) qs → Pairwise Differ qs → ((j : ℕ) → j ≢ id → positions_on j (amended b id m v qs) ≡ positions_on j p.positions)
+    → KeptByEveryRun (with_positions p (amended b id m v qs))
+kept-entered t p b id m v was qs ok entry few in_range all_open differ others = record {
+  investees_within_limit = ok.investees_within_limit;
+  positions_within_limit = omega (arith, length-amended b id m v qs);
+  investees_in_range = ok.investees_in_range;
+  positions_in_range = in-range-amended b id m v entry.in_range qs in_range;
+  ids_differ = ok.ids_differ;
+  positions_on_open_investees = all-amended b id m v (λ q. is_open q.id p ≡ true) (λ q h. h) qs all_open;
+  positions_differ = differ-amended b id m v qs differ;
+  exposures_within_limit =
+      exposures-entered p id entry.investee (amended b id m v qs) ok entry.found others
+      (λ y s. s ≤ most_exposure) ok.exposures_within_limit (within_limit t entry.investee _ entry.not-too-much);
+}
 
 kept-posted : (t : Tables) (p : PlainBook) (b id m v : ℕ) → KeptByEveryRun p → declined t p (post b id m v) ≡ None → KeptByEveryRun (changed p (post b id m v))
 kept-posted t p b id m v ok e =
     let accepted = posted-none t p b id m v e in
     let entry = accepted.0 in
-    let qs = with_position b id p.positions in
-    let x = entry.investee in
-    record {
-      investees_within_limit = ok.investees_within_limit;
-      positions_within_limit = omega (arith, length-amended b id m v qs, length-with-position b id p.positions accepted.1 ok.positions_within_limit);
-      investees_in_range = ok.investees_in_range;
-      positions_in_range = in-range-amended b id m v entry.in_range qs (all-with-position b id p.positions PositionInRange ok.positions_in_range (new-in-range b id entry.in_range.branch));
-      ids_differ = ok.ids_differ;
-      positions_on_open_investees =
-          all-amended b id m v (λ q. is_open q.id p ≡ true) (λ q h. h) qs
-          (all-with-position b id p.positions (λ q. is_open q.id p ≡ true) ok.positions_on_open_investees (is-open id p x entry.found));
-      positions_differ = differ-amended b id m v qs (differ-with-position b id p.positions ok.positions_differ);
-      exposures_within_limit =
-          exposures-entered p id x (posted b id m v p.positions) ok entry.found (λ j ne. others-posted b id m v j ne p.positions)
-          (λ y s. s ≤ most_exposure) ok.exposures_within_limit (within_limit t x _ entry.not-too-much);
-    }
+    kept-entered t p b id m v false (with_position b id p.positions) ok entry
+    (length-with-position b id p.positions accepted.1 ok.positions_within_limit)
+    (all-with-position b id p.positions PositionInRange ok.positions_in_range (new-in-range b id entry.in_range.branch))
+    (all-with-position b id p.positions (λ q. is_open q.id p ≡ true) ok.positions_on_open_investees (ap is_some entry.found))
+    (differ-with-position b id p.positions ok.positions_differ) (λ j ne. others-posted b id m v j ne p.positions)
 
 kept-amended : (t : Tables) (p : PlainBook) (b id m v : ℕ) → KeptByEveryRun p → declined t p (amend b id m v) ≡ None → KeptByEveryRun (changed p (amend b id m v))
 kept-amended t p b id m v ok e =
-    let entry = amended-none t p b id m v e in
-    let x = entry.investee in
-    record {
-      investees_within_limit = ok.investees_within_limit;
-      positions_within_limit = omega (arith, length-amended b id m v p.positions, ok.positions_within_limit);
-      investees_in_range = ok.investees_in_range;
-      positions_in_range = in-range-amended b id m v entry.in_range p.positions ok.positions_in_range;
-      ids_differ = ok.ids_differ;
-      positions_on_open_investees = all-amended b id m v (λ q. is_open q.id p ≡ true) (λ q h. h) p.positions ok.positions_on_open_investees;
-      positions_differ = differ-amended b id m v p.positions ok.positions_differ;
-      exposures_within_limit =
-          exposures-entered p id x (amended b id m v p.positions) ok entry.found (λ j ne. others-amended b id m v j ne p.positions)
-          (λ y s. s ≤ most_exposure) ok.exposures_within_limit (within_limit t x _ entry.not-too-much);
-    }
+    kept-entered t p b id m v true p.positions ok (amended-none t p b id m v e)
+    ok.positions_within_limit ok.positions_in_range ok.positions_on_open_investees ok.positions_differ (λ j ne. others-amended b id m v j ne p.positions)
 
 -- ---- each call
 
@@ -223,8 +184,4 @@ kept-changed-book t p (ask_sheet b) limits ok e = ok
 kept-changed-book t p ask_book_total limits ok e = ok
 
 pub kept-by-a-call : (t : Tables) (p : PlainBook) (c : Step) → WithinSourceLimits c → KeptByEveryRun p → KeptByEveryRun (after t p c)
-kept-by-a-call t p c limits ok = by (declined t p c) refl
-  where
-    by : (o : Option Fault) → declined t p c ≡ o → KeptByEveryRun (unless o (changed p c) (λ f. p))
-    by None e = kept-changed-book t p c limits ok e
-    by (Some f) e = ok
+kept-by-a-call t p c limits ok = by-a-call t p c KeptByEveryRun ok (kept-changed-book t p c limits ok)

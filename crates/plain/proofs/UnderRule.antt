@@ -1,5 +1,5 @@
 -- What every run keeps under its rule: bases, amounts above zero, and bonds within their denominators.
-use Rattle.std.proofs.Common.{◌≡◌, ℕ, true, false, ◌&&◌, ltb, List, [], ◌∷◌, ◌++◌, map, is_ok, Some, None, Ok, Err, Option, Result, sym, refl, ap, subst, ap₂, arith}
+use Rattle.std.proofs.Common.{◌≡◌, ℕ, Bool, true, false, ◌≢◌, ◌&&◌, ltb, List, [], ◌∷◌, ◌++◌, map, is_ok, None, Ok, Err, Result, sym, refl, ap, subst, ap₂, arith}
 use Rattle.std.proofs.ByRecursion.{All-push}
 use Rattle.std.proofs.lemmas.Bool.{le-ltb, and_right}
 use Rattle.faults.specs.declared.Fault.{Fault}
@@ -10,17 +10,17 @@ use Rattle.rules.specs.declared.figures.Base.{Base}
 use Rattle.rules.specs.declared.figures.Base.TheVariants.{Amount, Whole}
 use Rattle.rules.specs.declared.investees.Profile.{Profile}
 use Rattle.sources.specs.declared.reading.Reading.{Reading}
-use Rattle.plain.specs.Changes.{opened, restated, reduced_by, read_into, added, amended, posted, changed}
+use Rattle.plain.specs.Changes.{opened, restated, reduced_by, read_into, added, changed}
 use Rattle.plain.specs.Exposures.{is_bond, exposure_to, lent_by, positions_on, denominator_from, denominator_of}
 use Rattle.plain.specs.Kept.{KeptByEveryRun, KeptUnderRule}
 use Rattle.plain.specs.Limits.{most_exposure}
 use Rattle.plain.specs.Lists.{change_first}
 use Rattle.plain.specs.Parts.{Denominator, at_least, whole, AboveZero, exposures}
-use Rattle.plain.specs.PlainBook.{PlainInvestee, PlainPosition, PlainBook, empty, with_investees, has_id, is_open}
+use Rattle.plain.specs.PlainBook.{PlainInvestee, PlainPosition, PlainBook, empty, with_investees, with_positions, has_id, is_open}
 use Rattle.plain.specs.Refused.{declined, too_much_lent, passes}
-use Rattle.plain.specs.Runs.{unless, after}
+use Rattle.plain.specs.Runs.{after}
 use Rattle.plain.specs.Steps.{Meaning, Step, enter, restate, reduce, post, amend, ask_part, ask_total, ask_sheet, ask_book_total, WithinSourceLimits}
-use Rattle.plain.proofs.Accepted.{checked-figures, refuse-none, opened-none, posted-none, amended-none}
+use Rattle.plain.proofs.Accepted.{by-a-call, Entered, checked-figures, refuse-none, opened-none, posted-none, amended-none}
 use Rattle.plain.proofs.Kept.{no-positions, no-position-yet, exposures-entered, same-profile}
 use Rattle.plain.proofs.Lists.{all-change}
 use Rattle.plain.proofs.Positions.{others-amended, others-posted}
@@ -66,6 +66,14 @@ ruled-read t p id change same ok = record {
 bounded : (t : Tables) (x : PlainInvestee) (qs : List PlainPosition) → too_much_lent t x qs ≡ None → Bounded t x (exposure_to x qs)
 bounded t x qs e = (refuse-none (is_bond x.profile.kind && passes (exposure_to x qs) (denominator_of t x)) _ _ (refuse-none (ltb most_exposure (exposure_to x qs)) _ _ e).1).0
 
+ruled-entered : (t : Tables) (p : PlainBook) (b id m v : ℕ) (was : Bool) (qs : List PlainPosition) → KeptByEveryRun p → KeptUnderRule t p → Entered t p b id m v was qs → ((j : ℕ) → j ≢ id → positions_on j qs ≡ positions_on j p.positions)
+    → KeptUnderRule t (with_positions p qs)
+ruled-entered t p b id m v was qs kept ok entry others = record {
+  bases_given = ok.bases_given;
+  amounts_above_zero = ok.amounts_above_zero;
+  bonds_within_denominator = exposures-entered p id entry.investee qs kept entry.found others (Bounded t) ok.bonds_within_denominator (bounded t entry.investee qs entry.not-too-much);
+}
+
 ruled-changed : (t : Tables) → Lawful t → (p : PlainBook) (c : Step) → KeptByEveryRun p → KeptUnderRule t p → declined t p c ≡ None → KeptUnderRule t (changed p c)
 ruled-changed t lawful p (enter fields meaning) kept ok e =
     let o = opened-none t p fields meaning e in
@@ -73,34 +81,12 @@ ruled-changed t lawful p (enter fields meaning) kept ok e =
     (ruled-opened t lawful p o.profile o.reading o.base kept ok o.is-new (checked-figures fields o.profile o.in_range) o.based)
 ruled-changed t lawful p (restate id meaning) kept ok e = ruled-read t p id (read_into restated meaning) (same-profile restated (λ r x. refl) meaning) ok
 ruled-changed t lawful p (reduce id meaning) kept ok e = ruled-read t p id (read_into reduced_by meaning) (same-profile reduced_by (λ r x. refl) meaning) ok
-ruled-changed t lawful p (post b id m v) kept ok e =
-    let entry = (posted-none t p b id m v e).0 in
-    let x = entry.investee in
-    record {
-      bases_given = ok.bases_given;
-      amounts_above_zero = ok.amounts_above_zero;
-      bonds_within_denominator =
-          exposures-entered p id x (posted b id m v p.positions) kept entry.found (λ j ne. others-posted b id m v j ne p.positions)
-          (Bounded t) ok.bonds_within_denominator (bounded t x _ entry.not-too-much);
-    }
-ruled-changed t lawful p (amend b id m v) kept ok e =
-    let entry = amended-none t p b id m v e in
-    let x = entry.investee in
-    record {
-      bases_given = ok.bases_given;
-      amounts_above_zero = ok.amounts_above_zero;
-      bonds_within_denominator =
-          exposures-entered p id x (amended b id m v p.positions) kept entry.found (λ j ne. others-amended b id m v j ne p.positions)
-          (Bounded t) ok.bonds_within_denominator (bounded t x _ entry.not-too-much);
-    }
+ruled-changed t lawful p (post b id m v) kept ok e = ruled-entered t p b id m v false _ kept ok (posted-none t p b id m v e).0 (λ j ne. others-posted b id m v j ne p.positions)
+ruled-changed t lawful p (amend b id m v) kept ok e = ruled-entered t p b id m v true _ kept ok (amended-none t p b id m v e) (λ j ne. others-amended b id m v j ne p.positions)
 ruled-changed t lawful p (ask_part id b) kept ok e = ok
 ruled-changed t lawful p (ask_total id) kept ok e = ok
 ruled-changed t lawful p (ask_sheet b) kept ok e = ok
 ruled-changed t lawful p ask_book_total kept ok e = ok
 
 pub ruled-by-a-call : (t : Tables) → Lawful t → (p : PlainBook) (c : Step) → WithinSourceLimits c → KeptByEveryRun p → KeptUnderRule t p → KeptUnderRule t (after t p c)
-ruled-by-a-call t lawful p c limits kept ok = by (declined t p c) refl
-  where
-    by : (o : Option Fault) → declined t p c ≡ o → KeptUnderRule t (unless o (changed p c) (λ f. p))
-    by None e = ruled-changed t lawful p c kept ok e
-    by (Some f) e = ok
+ruled-by-a-call t lawful p c limits kept ok = by-a-call t p c (KeptUnderRule t) ok (ruled-changed t lawful p c kept ok)
