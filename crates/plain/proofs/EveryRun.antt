@@ -1,8 +1,8 @@
 -- Every run keeps every kilogram.
-use Rattle.std.proofs.Common.{◌≡◌, ℕ, Bool, true, false, cond, not, eqb, ltb, ◌≢◌, List, [], ◌∷◌, ◌++◌, map, take, ℤ, ◌+ℤ◌, Some, filter, sym, refl, ◌∙◌, subst, ap₂}
+use Rattle.std.proofs.Common.{◌≡◌, ℕ, false, not, eqb, ltb, ◌≢◌, List, [], ◌∷◌, ◌++◌, map, take, ℤ, ◌+ℤ◌, Some, filter, sym, refl, ◌∙◌, subst, ap₂}
 use Rattle.std.specs.List.{AllByRecursion}
-use Rattle.std.proofs.ByRecursion.{All-weaker, All-map, All-take, All-append, all_kept_by}
-use Rattle.std.proofs.lemmas.Bool.{eqb-true, le-ltb, or_from}
+use Rattle.std.proofs.ByRecursion.{All-weaker, All-map, All-take, All-append, all_kept_by, kept_by_passes}
+use Rattle.std.proofs.lemmas.Bool.{cond_both, eqb-true, le-ltb, or_from}
 use Rattle.rules.specs.Tables.{Tables, Lawful}
 use Rattle.rules.specs.declared.kinds.Kind.{Kind}
 use Rattle.plain.specs.Branches.{Branch, branch_count}
@@ -18,7 +18,7 @@ use Rattle.plain.specs.Runs.{after, answer, run}
 use Rattle.plain.specs.Steps.{Step, ask_part, ask_total, ask_sheet, ask_book_total, WithinSourceLimits}
 use Rattle.plain.proofs.Kept.{kept-at-first, kept-by-a-call}
 use Rattle.plain.proofs.Kilograms.{AnsweredAsDefined, kilograms-kept}
-use Rattle.plain.proofs.Lists.{found-by-key}
+use Rattle.plain.proofs.Lists.{all_both, found-by-key}
 use Rattle.plain.proofs.Positions.{Differ}
 use Rattle.plain.proofs.Sums.{sum-map, sum-split}
 use Rattle.plain.proofs.UnderRule.{above_zero, ruled-at-first, ruled-by-a-call}
@@ -27,22 +27,17 @@ use Rattle.plain.proofs.UnderRule.{above_zero, ruled-at-first, ruled-by-a-call}
 
 module _ (kind : Kind) (id : ℕ) where
   others-lent : (b : ℕ) (qs : List PlainPosition) → AllByRecursion (λ q. q.id ≡ id → q.branch ≢ b) qs → AllByRecursion (λ l. l.branch ≢ b) (map (lent_by kind) (positions_on id qs))
-  others-lent b [] h = tt
-  others-lent b (q ∷ qs) h = by (eqb q.id id) refl (others-lent b qs h.1)
-    where
-      by : (t : Bool) → eqb q.id id ≡ t → AllByRecursion (λ l. l.branch ≢ b) (map (lent_by kind) (positions_on id qs)) → AllByRecursion (λ l. l.branch ≢ b) (map (lent_by kind) (cond t (q ∷ positions_on id qs) (positions_on id qs)))
-      by true e rest = (h.0 (eqb-true q.id id e), rest)
-      by false e rest = rest
+  others-lent b qs h =
+      All-map _ (lent_by kind) (positions_on id qs)
+      (All-weaker _ _ (λ q g. g.0 (eqb-true q.id id g.1)) (positions_on id qs)
+      (all_both _ _ (positions_on id qs) (all_kept_by (λ q. eqb q.id id) (λ q. q.id ≡ id → q.branch ≢ b) qs h) (kept_by_passes (λ q. eqb q.id id) qs)))
 
   pub lent-differ : (qs : List PlainPosition) → Pairwise Differ qs → Pairwise (λ l m. m.branch ≢ l.branch) (map (lent_by kind) (positions_on id qs))
   unfolding Pairwise
   lent-differ [] ok = tt
-  lent-differ (q ∷ qs) ok = by (eqb q.id id) refl (lent-differ qs ok.1)
-    where
-      by : (t : Bool) → eqb q.id id ≡ t → Pairwise (λ l m. m.branch ≢ l.branch) (map (lent_by kind) (positions_on id qs))
-          → Pairwise (λ l m. m.branch ≢ l.branch) (map (lent_by kind) (cond t (q ∷ positions_on id qs) (positions_on id qs)))
-      by true e rest = (others-lent q.branch qs (All-weaker _ _ (λ r h same. h (same ∙ sym (eqb-true q.id id e))) qs ok.0), rest)
-      by false e rest = rest
+  lent-differ (q ∷ qs) ok =
+      cond_both (eqb q.id id) _ _ (λ rs. Pairwise (λ l m. m.branch ≢ l.branch) (map (lent_by kind) rs))
+      (λ e. (others-lent q.branch qs (All-weaker _ _ (λ r h same. h (same ∙ sym (eqb-true q.id id e))) qs ok.0), lent-differ qs ok.1)) (λ e. lent-differ qs ok.1)
 
 pub once_per_branch : (p : PlainBook) → KeptByEveryRun p → (x : PlainInvestee) → OncePerBranch (lent_to x p.positions)
 once_per_branch p ok x = record {

@@ -51,6 +51,3 @@ pub ruleset linear = (same_in, sum_is_lem, neg_is)
 -- sizes
 pub size-add : (a b : ℤ) → nat_abs (a +ℤ b) ≤ nat_abs a + nat_abs b
 size-add a b = omega (arith, ints)
-
-pub size-neg : (a : ℤ) → nat_abs (neg_ℤ a) ≡ nat_abs a
-size-neg a = omega (arith, ints)

@@ -1,11 +1,11 @@
 -- What every run keeps: the empty book has it, and each call keeps it.
-use Rattle.std.proofs.Common.{◌≡◌, ℕ, ◌<◌, ◌≤◌, Bool, true, false, cond, eqb, ltb, ◌≢◌, List, [], ◌∷◌, ◌++◌, map, length, pos, ◌≤ℤ◌, is_some, Some, None, Ok, Err, Result, sym, refl, ap, ◌∙◌, subst, ap₂, ⊎_elim, arith, rules}
+use Rattle.std.proofs.Common.{◌≡◌, ℕ, ◌<◌, ◌≤◌, Bool, true, false, eqb, ltb, ◌≢◌, List, [], ◌∷◌, ◌++◌, map, length, pos, ◌≤ℤ◌, is_some, Some, None, Ok, Err, Result, sym, refl, ap, ◌∙◌, subst, ap₂, ⊎_elim, arith, rules}
 use lib.Signed.{lt_z}
 use Rattle.std.specs.List.{AllByRecursion}
 use Rattle.std.proofs.ByRecursion.{All-push, All-weaker}
 use Rattle.std.proofs.lemmas.List.{length_push}
 use Rattle.std.proofs.lemmas.Int.{ints}
-use Rattle.std.proofs.lemmas.Bool.{both_ways, cases_eq, eqb-true, eqb-false, ltb-false, leb-false}
+use Rattle.std.proofs.lemmas.Bool.{both_ways, cases_eq, ne_eqb, cond-false, eqb-false, ltb-false, leb-false}
 use Rattle.faults.specs.declared.Fault.{Fault}
 use Rattle.rules.specs.Figures as figures
 use Rattle.rules.specs.Tables.{Tables}
@@ -35,11 +35,7 @@ kept-at-first = search rules
 -- an investee without positions has no exposure
 pub no-positions : (id : ℕ) (qs : List PlainPosition) → AllByRecursion (λ q. q.id ≢ id) qs → positions_on id qs ≡ []
 no-positions id [] h = refl
-no-positions id (q ∷ qs) h = by (eqb q.id id) refl (no-positions id qs h.1)
-  where
-    by : (t : Bool) → eqb q.id id ≡ t → positions_on id qs ≡ [] → cond t (q ∷ positions_on id qs) (positions_on id qs) ≡ []
-    by true e rest = absurd (h.0 (eqb-true q.id id e))
-    by false e rest = rest
+no-positions id (q ∷ qs) h = cond-false (eqb q.id id) _ _ (ne_eqb q.id id h.0) ∙ no-positions id qs h.1
 
 not-below-zero : (r : Reading) → below_zero r ≡ None → pos 0 ≤ℤ r.kilograms
 not-below-zero r e =

@@ -6,7 +6,7 @@ use Rattle.std.proofs.ByRecursion.{All-weaker, All-push}
 use Rattle.std.proofs.lemmas.Option.{slice_get-get_or, slice_get_past}
 use Rattle.std.proofs.lemmas.List.Folds.{find_at, find-append}
 use Rattle.std.proofs.lemmas.List.Recursion.{same_from_clauses}
-use Rattle.std.proofs.lemmas.Bool.{eq-eqb, ne_eqb, cond-true, cond-false}
+use Rattle.std.proofs.lemmas.Bool.{eq-eqb, ne_eqb, cond-true, cond-false, cond_both}
 use Rattle.plain.specs.Lists.{first_of, change_first, Pairwise}
 
 pub all_both : {X : Type 0} (P Q : X → Type 0) (xs : List X) → AllByRecursion P xs → AllByRecursion Q xs → AllByRecursion (λ x. P x × Q x) xs
@@ -22,29 +22,19 @@ is_find test = same_from_clauses (first_of test) (find test) (λ x r. cond (test
 pub first_passes : {X : Type 0} (test : X → Bool) (xs : List X) (y : X) → first_of test xs ≡ Some y → test y ≡ true
 unfolding first_of
 first_passes test [] y e = absurd cc
-first_passes {X} test (x ∷ xs) y e = by (test x) refl e (first_passes test xs y)
-  where
-    by : (t : Bool) → test x ≡ t → cond t (Some x) (first_of test xs) ≡ Some y → (first_of test xs ≡ Some y → test y ≡ true) → test y ≡ true
-    by true p e rest = let same : x ≡ y = cc in ap test (sym same) ∙ p
-    by false p e rest = rest e
+first_passes test (x ∷ xs) y e = cond_both (test x) (Some x) (first_of test xs) (λ o. o ≡ Some y → test y ≡ true) (λ p h. let same : x ≡ y = cc in ap test (sym same) ∙ p) (λ p h. first_passes test xs y h) e
 
 pub first-all : {X : Type 0} (P : X → Type 0) (test : X → Bool) (xs : List X) (y : X) → first_of test xs ≡ Some y → AllByRecursion P xs → P y
 unfolding first_of
 first-all P test [] y e all = absurd cc
-first-all {X} P test (x ∷ xs) y e all = by (test x) e (λ h. first-all P test xs y h all.1)
-  where
-    by : (t : Bool) → cond t (Some x) (first_of test xs) ≡ Some y → (first_of test xs ≡ Some y → P y) → P y
-    by true e rest = let same : x ≡ y = cc in subst P same all.0
-    by false e rest = rest e
+first-all P test (x ∷ xs) y e all = cond_both (test x) (Some x) (first_of test xs) (λ o. o ≡ Some y → P y) (λ p h. let same : x ≡ y = cc in subst P same all.0) (λ p h. first-all P test xs y h all.1) e
 
 pub none_passes : {X : Type 0} (test : X → Bool) (xs : List X) → is_some (first_of test xs) ≡ false → AllByRecursion (λ x. test x ≡ false) xs
 unfolding first_of
 none_passes test [] e = tt
-none_passes {X} test (x ∷ xs) e = by (test x) refl e (none_passes test xs)
-  where
-    by : (t : Bool) → test x ≡ t → is_some (cond t (Some x) (first_of test xs)) ≡ false → (is_some (first_of test xs) ≡ false → AllByRecursion (λ x. test x ≡ false) xs) → (test x ≡ false) × AllByRecursion (λ x. test x ≡ false) xs
-    by true p e rest = absurd cc
-    by false p e rest = (p, rest e)
+none_passes test (x ∷ xs) e =
+    cond_both (test x) (Some x) (first_of test xs) (λ o. is_some o ≡ false → (test x ≡ false) × AllByRecursion (λ x. test x ≡ false) xs)
+    (λ p h. absurd cc) (λ p h. (p, none_passes test xs h)) e
 
 pub still-found : {X : Type 0} (test : X → Bool) (xs : List X) (y : X) → is_some (first_of test xs) ≡ true → is_some (first_of test (xs ++ y ∷ [])) ≡ true
 still-found {X} test xs y e = ap is_some (is_find test (xs ++ y ∷ []) ∙ find-append test xs (y ∷ [])) ∙ by (find test xs) (ap is_some (sym (is_find test xs)) ∙ e)
@@ -71,63 +61,41 @@ module _ {X : Type 0} (test : X → Bool) (change : X → X) where
   pub length-change : (xs : List X) → length (change_first test change xs) ≡ length xs
   unfolding change_first
   length-change [] = refl
-  length-change (x ∷ xs) = by (test x) (length-change xs)
-    where
-      by : (t : Bool) → length (change_first test change xs) ≡ length xs → length (cond t (change x ∷ xs) (x ∷ change_first test change xs)) ≡ length (x ∷ xs)
-      by true rest = refl
-      by false rest = ap suc rest
+  length-change (x ∷ xs) = cond_both (test x) _ _ (λ (l : List X). length l ≡ suc (length xs)) (λ e. refl) (λ e. ap suc (length-change xs))
 
   pub all-change : (P : X → Type 0) → ((x : X) → test x ≡ true → P x → P (change x)) → (xs : List X) → AllByRecursion P xs → AllByRecursion P (change_first test change xs)
   unfolding change_first
   all-change P keeps [] all = tt
-  all-change P keeps (x ∷ xs) all = by (test x) refl (all-change P keeps xs all.1)
-    where
-      by : (t : Bool) → test x ≡ t → AllByRecursion P (change_first test change xs) → AllByRecursion P (cond t (change x ∷ xs) (x ∷ change_first test change xs))
-      by true e rest = (keeps x e all.0, all.1)
-      by false e rest = (all.0, rest)
+  all-change P keeps (x ∷ xs) all = cond_both (test x) _ _ (AllByRecursion P) (λ e. (keeps x e all.0, all.1)) (λ e. (all.0, all-change P keeps xs all.1))
 
   pub pairwise-change : (R : X → X → Type 0) → ((x y : X) → R x y → R (change x) y) → ((x y : X) → R x y → R x (change y)) → (xs : List X) → Pairwise R xs → Pairwise R (change_first test change xs)
   unfolding change_first Pairwise
   pairwise-change R left right [] ok = tt
-  pairwise-change R left right (x ∷ xs) ok = by (test x) (pairwise-change R left right xs ok.1)
-    where
-      by : (t : Bool) → Pairwise R (change_first test change xs) → Pairwise R (cond t (change x ∷ xs) (x ∷ change_first test change xs))
-      by true rest = (All-weaker _ _ (left x) xs ok.0, ok.1)
-      by false rest = (all-change (R x) (λ y e r. right x y r) xs ok.0, rest)
+  pairwise-change R left right (x ∷ xs) ok =
+      cond_both (test x) _ _ (Pairwise R) (λ e. (All-weaker _ _ (left x) xs ok.0, ok.1))
+      (λ e. (all-change (R x) (λ y e r. right x y r) xs ok.0, pairwise-change R left right xs ok.1))
 
   -- another test finds as much as before, if the change does not touch it
   pub found-changed : (other : X → Bool) → ((x : X) → other (change x) ≡ other x) → (xs : List X) → is_some (first_of other (change_first test change xs)) ≡ is_some (first_of other xs)
   unfolding change_first first_of
   found-changed other same [] = refl
-  found-changed other same (x ∷ xs) = by (test x) (found-changed other same xs)
+  found-changed other same (x ∷ xs) =
+      cond_both (test x) _ _ (λ l. is_some (first_of other l) ≡ is_some (first_of other (x ∷ xs)))
+      (λ e. rw (same x) (alike (other x) (change x) (first_of other xs) (first_of other xs) refl))
+      (λ e. alike (other x) x (first_of other (change_first test change xs)) (first_of other xs) (found-changed other same xs))
     where
-      head : (s t : Bool) → s ≡ t → is_some (cond s (Some (change x)) (first_of other xs)) ≡ is_some (cond t (Some x) (first_of other xs))
-      head true true e = refl
-      head true false e = absurd cc
-      head false true e = absurd cc
-      head false false e = refl
-
-      tail : (t : Bool) → is_some (first_of other (change_first test change xs)) ≡ is_some (first_of other xs) → is_some (cond t (Some x) (first_of other (change_first test change xs))) ≡ is_some (cond t (Some x) (first_of other xs))
-      tail true rest = refl
-      tail false rest = rest
-
-      by : (t : Bool) → is_some (first_of other (change_first test change xs)) ≡ is_some (first_of other xs) → is_some (first_of other (cond t (change x ∷ xs) (x ∷ change_first test change xs))) ≡ is_some (first_of other (x ∷ xs))
-      by true rest = head (other (change x)) (other x) (same x)
-      by false rest = tail (other x) rest
+      alike : (t : Bool) (y : X) (a b : Option X) → is_some a ≡ is_some b → is_some (cond t (Some y) a) ≡ is_some (cond t (Some x) b)
+      alike true y a b e = refl
+      alike false y a b e = e
 
   -- those that another test keeps are not changed
   pub kept-changed : (other : X → Bool) → ((x : X) → test x ≡ true → other x ≡ false) → ((x : X) → other (change x) ≡ other x) → (xs : List X) → filter other (change_first test change xs) ≡ filter other xs
   unfolding change_first
   kept-changed other apart same [] = refl
-  kept-changed other apart same (x ∷ xs) = by (test x) refl (kept-changed other apart same xs)
-    where
-      tail : (t : Bool) → filter other (change_first test change xs) ≡ filter other xs → cond t (x ∷ filter other (change_first test change xs)) (filter other (change_first test change xs)) ≡ cond t (x ∷ filter other xs) (filter other xs)
-      tail true rest = ap (λ ys. x ∷ ys) rest
-      tail false rest = rest
-
-      by : (t : Bool) → test x ≡ t → filter other (change_first test change xs) ≡ filter other xs → filter other (cond t (change x ∷ xs) (x ∷ change_first test change xs)) ≡ filter other (x ∷ xs)
-      by true e rest = cond-false (other (change x)) _ _ (same x ∙ apart x e) ∙ sym (cond-false (other x) _ _ (apart x e))
-      by false e rest = tail (other x) rest
+  kept-changed other apart same (x ∷ xs) =
+      cond_both (test x) _ _ (λ l. filter other l ≡ filter other (x ∷ xs))
+      (λ e. cond-false (other (change x)) _ _ (same x ∙ apart x e) ∙ sym (cond-false (other x) _ _ (apart x e)))
+      (λ e. ap (λ ys. cond (other x) (x ∷ ys) ys) (kept-changed other apart same xs))
 
 -- ---- one more at the end
 
