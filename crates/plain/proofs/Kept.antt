@@ -81,7 +81,11 @@ restated-in-range r x limits e h = search (rules, not-below-zero)
 reduced-in-range : (r : Reading) (x : PlainInvestee) → InLimits r → InvesteeInRange x → InvesteeInRange (reduced_by r x)
 reduced-in-range r x limits h = search rules
 
--- a change that leaves the profile as it is
+-- a change that leaves the profile as it is keeps what holds of it
+pub all-profiles : (id : ℕ) (change : PlainInvestee → PlainInvestee) → ((x : PlainInvestee) → (change x).profile ≡ x.profile) → (P : Profile → Type 0) (xs : List PlainInvestee) → AllByRecursion (λ x. P x.profile) xs
+    → AllByRecursion (λ x. P x.profile) (change_first (has_id id) change xs)
+all-profiles id change same P xs all = all-change (has_id id) change (λ x. P x.profile) (λ x e h. subst P (sym (same x)) h) xs all
+
 kept_read : (p : PlainBook) (id : ℕ) (change : PlainInvestee → PlainInvestee) → ((x : PlainInvestee) → (change x).profile ≡ x.profile) → ((x : PlainInvestee) → InvesteeInRange x → InvesteeInRange (change x))
     → KeptByEveryRun p → KeptByEveryRun (with_investees p (change_first (has_id id) change p.investees))
 kept_read p id change same in_range ok = record {
@@ -92,8 +96,7 @@ kept_read p id change same in_range ok = record {
   ids_differ = pairwise-change (has_id id) change (λ x y. id_of y ≢ id_of x) (λ x y h e. h (e ∙ same_id x)) (λ x y h e. h (sym (same_id y) ∙ e)) p.investees ok.ids_differ;
   positions_on_open_investees = All-weaker _ _ (λ q h. found-changed (has_id id) change (has_id q.id) (λ x. ap (λ n. eqb n q.id) (same_id x)) p.investees ∙ h) p.positions ok.positions_on_open_investees;
   positions_differ = ok.positions_differ;
-  exposures_within_limit = all-change (has_id id) change (λ x. exposure_to x p.positions ≤ most_exposure)
-      (λ x e h. subst (λ (y : Profile). exposures (map (lent_by y.kind) (positions_on y.id p.positions)) ≤ most_exposure) (sym (same x)) h) p.investees ok.exposures_within_limit;
+  exposures_within_limit = all-profiles id change same (λ x. exposures (map (lent_by x.kind) (positions_on x.id p.positions)) ≤ most_exposure) p.investees ok.exposures_within_limit;
 }
   where
     same_id : (x : PlainInvestee) → id_of (change x) ≡ id_of x

@@ -1,8 +1,8 @@
 -- The parts of one investee: each near its share, and all adding up to the rounded figure of all exposures.
-use Rattle.std.proofs.Common.{◌≡◌, ℕ, ◌+◌, ◌<◌, ◌≤◌, max, Bool, true, false, cond, eqb, ◌≢◌, ◌⊎◌, List, [], ◌∷◌, ℤ, pos, ◌+ℤ◌, ◌-ℤ◌, ◌*ℤ◌, nat_abs, sym, refl, ap, ◌∙◌, ap₂, inl, inr, add-zero, zero-add, arith}
+use Rattle.std.proofs.Common.{◌≡◌, ℕ, ◌+◌, ◌<◌, ◌≤◌, max, Bool, true, false, cond, eqb, ◌≢◌, ◌⊎◌, List, [], ◌∷◌, ℤ, pos, ◌+ℤ◌, ◌-ℤ◌, ◌*ℤ◌, nat_abs, sym, refl, ap, ◌∙◌, ap₂, inl, inr, ⊎_elim, add-zero, zero-add, add_assoc, arith}
 use lib.IntN.{+ℤ_idr, +ℤ_invr}
 use Rattle.std.specs.List.{AllByRecursion}
-use Rattle.std.proofs.lemmas.Bool.{ne_eqb, cond-true, cond-false, cases_lt}
+use Rattle.std.proofs.lemmas.Bool.{ne_eqb, cond-true, cond-false, cond_both, cases_lt}
 use Rattle.plain.specs.Branches.{branches, branch_count}
 use Rattle.plain.specs.Fractions.{◌over◌}
 use Rattle.plain.specs.Lists.{Pairwise}
@@ -32,16 +32,8 @@ short-base (at_least w) s n = omega arith
 short-base whole s n = omega arith
 
 reached-or-not : (d : Denominator) (s : ℕ) → ReachedBy d s ⊎ (ReachedBy d s → ⊥)
-reached-or-not (at_least w) s = by (cases_lt s w)
-  where
-    by : (s < w) ⊎ (w ≤ s) → (w ≤ s) ⊎ (w ≤ s → ⊥)
-    by (inl h) = inr (λ g. omega arith)
-    by (inr h) = inl h
-reached-or-not whole s = by (cases_lt 0 s)
-  where
-    by : (0 < s) ⊎ (s ≤ 0) → (0 < s) ⊎ (0 < s → ⊥)
-    by (inl h) = inl h
-    by (inr h) = inr (λ g. omega arith)
+reached-or-not (at_least w) s = ⊎_elim (λ h. inr (λ g. omega arith)) inl (cases_lt s w)
+reached-or-not whole s = ⊎_elim inl (λ h. inr (λ g. omega arith)) (cases_lt 0 s)
 
 -- ---- one part
 
@@ -52,12 +44,11 @@ part-nears false F B c e h = no-part-near B h
 pub part-near : (a : Apportionment) (b : ℕ) → PartNearShare (part a b) (share a b)
 part-near a b = part-nears a.counted a.figure (base a) (exposure_before a.lent b) (exposure_at a.lent b) (base-pos a)
 
-no-exposure : (t : Bool) (F : ℤ) (B c e : ℕ) → e ≡ 0 → cond t (rounded F (c + e) B -ℤ rounded F c B) (pos 0) ≡ pos 0
-no-exposure true F B c e z = ap (λ n. rounded F n B -ℤ rounded F c B) (omega arith) ∙ +ℤ_invr (rounded F c B)
-no-exposure false F B c e z = refl
-
 pub part_none : (a : Apportionment) (b : ℕ) → exposure_at a.lent b ≡ 0 → part a b ≡ pos 0
-part_none a b e = no-exposure a.counted a.figure (base a) (exposure_before a.lent b) (exposure_at a.lent b) e
+part_none a b e =
+    cond_both a.counted _ _ (λ n. n ≡ pos 0)
+    (λ _. ap (λ n. rounded a.figure n (base a) -ℤ rounded a.figure (exposure_before a.lent b) (base a)) (omega arith) ∙ +ℤ_invr (rounded a.figure (exposure_before a.lent b) (base a)))
+    (λ _. refl)
 
 pub part-uncounted : (a : Apportionment) (b : ℕ) → a.counted ≡ false → part a b ≡ pos 0
 part-uncounted a b e = cond-false a.counted _ _ e
@@ -101,14 +92,13 @@ parts-after-add F B c [] ok =
     ∙ sym (ap (λ n. rounded F n B -ℤ rounded F c B) (add-zero c) ∙ +ℤ_invr (rounded F c B))
 parts-after-add F B c (l ∷ ls) ok =
     let e = l.exposure in
-    sum_same branches _ _ (part-after-cons F B c l ls)
-    ∙ sum-pick branch_count l.branch (rounded F (c + e) B -ℤ rounded F c B) (part_after F B (c + e) ls) ok.branches_in_range.0.0 ok.branches_in_range.0.1 (part-after-none F B (c + e) ls l.branch ok.branches_differ.0)
-    ∙ ap (λ z. (rounded F (c + e) B -ℤ rounded F c B) +ℤ z) (parts-after-add F B (c + e) ls (fewer l ls ok))
-    ∙ telescope (rounded F (c + e) B) (rounded F c B) (rounded F (c + e + exposures ls) B)
-    ∙ ap (λ n. rounded F n B -ℤ rounded F c B) (omega arith)
-  where
-    telescope : (x y z : ℤ) → (x -ℤ y) +ℤ (z -ℤ x) ≡ z -ℤ y
-    telescope x y z = omega (arith, linear)
+    rw (
+      sum_same branches _ _ (part-after-cons F B c l ls),
+      sum-pick branch_count l.branch (rounded F (c + e) B -ℤ rounded F c B) (part_after F B (c + e) ls) ok.branches_in_range.0.0 ok.branches_in_range.0.1 (part-after-none F B (c + e) ls l.branch ok.branches_differ.0),
+      parts-after-add F B (c + e) ls (fewer l ls ok),
+      add_assoc c e (exposures ls),
+    )
+    (omega (arith, linear))
 
 parts_add : (F : ℤ) (B : ℕ) (ls : List Lent) → OncePerBranch ls → sum_over branches (λ b. rounded F (exposure_before ls b + exposure_at ls b) B -ℤ rounded F (exposure_before ls b) B) ≡ rounded F (exposures ls) B
 unfolding part_after
@@ -127,12 +117,11 @@ total-is a ok = totals-by a.counted a.figure (base a) a.lent ok
 
 -- ---- the total and the figure
 
-within : (t : Bool) (F : ℤ) (c B : ℕ) → 0 < B → c ≤ B → nat_abs (cond t (rounded F c B) (pos 0)) ≤ nat_abs F
-within true F c B p h = rounded-within F c B p h
-within false F c B p h = omega arith
-
 pub total-within : (a : Apportionment) → OncePerBranch a.lent → nat_abs (total a) ≤ nat_abs a.figure
-total-within a ok = rw (total-is a ok) (within a.counted a.figure (exposures a.lent) (base a) (base-pos a) (base-holds a.denominator (exposures a.lent)))
+total-within a ok =
+    rw (total-is a ok)
+    (cond_both a.counted _ _ (λ n. nat_abs n ≤ nat_abs a.figure)
+    (λ _. rounded-within a.figure (exposures a.lent) (base a) (base-pos a) (base-holds a.denominator (exposures a.lent))) (λ _. omega arith))
 
 pub total-whole : (a : Apportionment) → Orderly a → a.counted ≡ true → a.figure ≢ pos 0 → TotalIsFigureWhen (Reached a) (total a) a.figure
 total-whole a ok counts n =

@@ -1,8 +1,8 @@
 -- How large parts and their sums can become, for the words that an engine keeps them in.
-use Rattle.std.proofs.Common.{ℕ, ◌+◌, ◌*◌, ◌≤◌, Bool, true, false, cond, eqb, List, [], ◌∷◌, length, ℤ, pos, ◌-ℤ◌, nat_abs, arith}
+use Rattle.std.proofs.Common.{ℕ, ◌+◌, ◌*◌, ◌≤◌, Bool, true, false, cond, eqb, List, [], ◌∷◌, length, ℤ, nat_abs, arith}
 use Rattle.std.specs.List.{AllByRecursion}
+use Rattle.std.proofs.lemmas.Bool.{cond_both}
 use Rattle.plain.specs.Parts.{Lent, Apportionment, exposures, exposure_at, exposure_before, base, part}
-use Rattle.plain.specs.Rounding.{rounded}
 use Rattle.plain.specs.Sums.{sum_over}
 use Rattle.plain.proofs.Integers.{size-add}
 use Rattle.plain.proofs.Parts.{base-pos, base-holds}
@@ -21,12 +21,9 @@ running-within (l ∷ ls) b = by (eqb l.branch b) (running-within ls b)
 -- a part is no larger in size than the figure
 pub part-within : (a : Apportionment) (b : ℕ) → nat_abs (part a b) ≤ nat_abs a.figure
 part-within a b =
-    by a.counted (exposure_before a.lent b) (exposure_at a.lent b)
-    (omega (arith, running-within a.lent b, base-holds a.denominator (exposures a.lent)))
-  where
-    by : (t : Bool) (c e : ℕ) → c + e ≤ base a → nat_abs (cond t (rounded a.figure (c + e) (base a) -ℤ rounded a.figure c (base a)) (pos 0)) ≤ nat_abs a.figure
-    by true c e h = rounded-between a.figure c e (base a) (base-pos a) h
-    by false c e h = omega arith
+    cond_both a.counted _ _ (λ n. nat_abs n ≤ nat_abs a.figure)
+    (λ _. rounded-between a.figure (exposure_before a.lent b) (exposure_at a.lent b) (base a) (base-pos a) (omega (arith, running-within a.lent b, base-holds a.denominator (exposures a.lent))))
+    (λ _. omega arith)
 
 -- nor is a sum, for each of its terms
 pub sum-within : {X : Type 0} (xs : List X) (f : X → ℤ) (m : ℕ) → AllByRecursion (λ x. nat_abs (f x) ≤ m) xs → nat_abs (sum_over xs f) ≤ length xs * m

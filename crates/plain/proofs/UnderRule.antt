@@ -21,8 +21,7 @@ use Rattle.plain.specs.Refused.{declined, too_much_lent, passes}
 use Rattle.plain.specs.Runs.{after}
 use Rattle.plain.specs.Steps.{Meaning, Step, enter, restate, reduce, post, amend, ask_part, ask_total, ask_sheet, ask_book_total, WithinSourceLimits}
 use Rattle.plain.proofs.Accepted.{by-a-call, Entered, checked-figures, refuse-none, opened-none, posted-none, amended-none}
-use Rattle.plain.proofs.Kept.{no-positions, no-position-yet, exposures-entered, same-profile}
-use Rattle.plain.proofs.Lists.{all-change}
+use Rattle.plain.proofs.Kept.{all-profiles, no-positions, no-position-yet, exposures-entered, same-profile}
 use Rattle.plain.proofs.Positions.{others-amended, others-posted}
 
 -- a bond's exposure does not pass its denominator
@@ -55,12 +54,11 @@ ruled-opened t lawful p x r b kept ok is-new figures based = record {
 -- a change that leaves the profile as it is
 ruled-read : (t : Tables) (p : PlainBook) (id : ℕ) (change : PlainInvestee → PlainInvestee) → ((x : PlainInvestee) → (change x).profile ≡ x.profile) → KeptUnderRule t p → KeptUnderRule t (with_investees p (change_first (has_id id) change p.investees))
 ruled-read t p id change same ok = record {
-  bases_given = all-change (has_id id) change (λ y. is_ok (t.bases y.profile.kind y.profile.figures) ≡ true)
-      (λ x e h. subst (λ (y : Profile). is_ok (t.bases y.kind y.figures) ≡ true) (sym (same x)) h) p.investees ok.bases_given;
-  amounts_above_zero = all-change (has_id id) change (λ y. AboveZero (denominator_of t y))
-      (λ x e h. subst (λ (y : Profile). AboveZero (denominator_from (t.bases y.kind y.figures))) (sym (same x)) h) p.investees ok.amounts_above_zero;
-  bonds_within_denominator = all-change (has_id id) change (λ y. Bounded t y (exposure_to y p.positions))
-      (λ x e h. subst (λ (y : Profile). (is_bond y.kind && passes (exposures (map (lent_by y.kind) (positions_on y.id p.positions))) (denominator_from (t.bases y.kind y.figures))) ≡ false) (sym (same x)) h) p.investees ok.bonds_within_denominator;
+  bases_given = all-profiles id change same (λ x. is_ok (t.bases x.kind x.figures) ≡ true) p.investees ok.bases_given;
+  amounts_above_zero = all-profiles id change same (λ x. AboveZero (denominator_from (t.bases x.kind x.figures))) p.investees ok.amounts_above_zero;
+  bonds_within_denominator =
+      all-profiles id change same (λ x. (is_bond x.kind && passes (exposures (map (lent_by x.kind) (positions_on x.id p.positions))) (denominator_from (t.bases x.kind x.figures))) ≡ false)
+      p.investees ok.bonds_within_denominator;
 }
 
 bounded : (t : Tables) (x : PlainInvestee) (qs : List PlainPosition) → too_much_lent t x qs ≡ None → Bounded t x (exposure_to x qs)
