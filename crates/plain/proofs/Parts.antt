@@ -103,9 +103,9 @@ parts-after-add F B c (l ∷ ls) ok =
 parts_add : (F : ℤ) (B : ℕ) (ls : List Lent) → OncePerBranch ls → sum_over branches (λ b. rounded F (exposure_before ls b + exposure_at ls b) B -ℤ rounded F (exposure_before ls b) B) ≡ rounded F (exposures ls) B
 unfolding part_after
 parts_add F B ls ok =
-    sum_same branches _ _ (λ b. ap₂ (λ m n. rounded F m B -ℤ rounded F n B) (sym (zero-add (exposure_before ls b + exposure_at ls b))) (sym (zero-add (exposure_before ls b))))
+    sum_same branches _ (part_after F B 0 ls) (λ b. simp zero-add)
     ∙ parts-after-add F B 0 ls ok
-    ∙ ap₂ (λ c z. rounded F c B -ℤ z) (zero-add (exposures ls)) (rounded-none F B) ∙ +ℤ_idr (rounded F (exposures ls) B)
+    ∙ rw (zero-add (exposures ls), rounded-none F B) (+ℤ_idr (rounded F (exposures ls) B))
 
 totals-by : (t : Bool) (F : ℤ) (B : ℕ) (ls : List Lent) → OncePerBranch ls → sum_over branches (λ b. cond t (rounded F (exposure_before ls b + exposure_at ls b) B -ℤ rounded F (exposure_before ls b) B) (pos 0)) ≡ cond t (rounded F (exposures ls) B) (pos 0)
 totals-by true F B ls ok = parts_add F B ls ok
