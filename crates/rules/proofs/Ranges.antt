@@ -1,7 +1,7 @@
 -- Fields are accepted exactly when each is within its range.
-use Rattle.std.proofs.Common.{◌≡◌, ℕ, zero, suc, ◌<◌, ◌≤◌, true, leb, ◌⊎◌, Some, None, Ok, Option, refl, subst, inl, inr, ⊎_elim, arith}
+use Rattle.std.proofs.Common.{◌≡◌, ℕ, zero, suc, ◌≤◌, true, ◌⊎◌, Some, None, Ok, Option, refl, subst, inl, inr, ⊎_elim, arith}
 use Rattle.std.proofs.lemmas.Bool.Decides.{nat_tests}
-use Rattle.std.proofs.lemmas.Bool.{leb-true, and_parts, cond_both, cases_lt}
+use Rattle.std.proofs.lemmas.Bool.{cond_both}
 use Rattle.rules.specs.declared.kinds.Kind.{Kind}
 use Rattle.rules.specs.declared.kinds.Kind.TheVariants.{Project, PropertyDevelopment, PropertyPurchase, Vehicle, GeneralLoan, Bond}
 use Rattle.rules.specs.declared.kinds.Size.{Size}
@@ -9,9 +9,7 @@ use Rattle.rules.specs.declared.kinds.Size.TheVariants.{Large, Medium, Small, Mi
 use Rattle.rules.specs.declared.investees.InvesteeFields.{InvesteeFields}
 use Rattle.rules.specs.declared.investees.Profile.{Profile}
 use Rattle.rules.specs.Kinds.{kind_number, kind_numbered, size_number, size_numbered}
-use Rattle.rules.specs.declared.figures.Figures.{Figures}
-use Rattle.rules.specs.Figures.{most_figure, WithinLimits, within_limits}
-use Rattle.rules.specs.Investees.{last_id, last_sector, most_days, numbers_in_range, profile, profiled, profile_of, out_of_range, WithinRanges, SameNumbers, Checked}
+use Rattle.rules.specs.Investees.{numbers_in_range, profile, profiled, profile_of, out_of_range, WithinRanges, SameNumbers, Checked}
 
 kind-from-number : (n : ℕ) → 1 ≤ n → n ≤ 6 → (k : Kind) × (kind_numbered n ≡ Some k) × (kind_number k ≡ n)
 kind-from-number zero low high = absurd (omega arith)
@@ -32,59 +30,20 @@ size-from-number (suc (suc (suc (suc zero)))) low high = (Micro, refl, refl)
 size-from-number (suc (suc (suc (suc (suc zero))))) low high = (Person, refl, refl)
 size-from-number (suc (suc (suc (suc (suc (suc n)))))) low high = absurd (omega arith)
 
-or-outside : (n m : ℕ) → ((n ≡ 0) ⊎ (m < n)) ⊎ ((1 ≤ n) × (n ≤ m))
-or-outside n m =
-    ⊎_elim (λ h. inl (inl (omega arith))) (λ h. ⊎_elim (λ l. inl (inr l)) (λ l. inr (h, l)) (cases_lt m n)) (cases_lt n 1)
-
 -- only the numbers of kinds have one
 kind-number : (n : ℕ) (k : Kind) → kind_numbered n ≡ Some k → (1 ≤ n) × (n ≤ 6)
-kind-number n k e =
-    ⊎_elim
-    (λ h. let none : kind_numbered n ≡ None = grind (arith, nat_tests) in absurd cc)
-    (λ h. (omega arith, omega arith))
-    (or-outside n 6)
+kind-number n k e = grind (arith, nat_tests)
 
 size-number : (n : ℕ) (z : Size) → size_numbered n ≡ Some z → (1 ≤ n) × (n ≤ 5)
-size-number n z e =
-    ⊎_elim
-    (λ h. let none : size_numbered n ≡ None = grind (arith, nat_tests) in absurd cc)
-    (λ h. (omega arith, omega arith))
-    (or-outside n 5)
+size-number n z e = grind (arith, nat_tests)
 
 numbers-pass : (f : InvesteeFields) → WithinRanges f → numbers_in_range f ≡ true
 numbers-pass f w =
     let limits = w.figures_to in
     grind (arith, nat_tests)
 
-limits-hold : (f : Figures) → within_limits f ≡ true → WithinLimits f
-limits-hold f e =
-    let investment = and_parts (leb f.investment most_figure) _ e in
-    let revenue = and_parts (leb f.revenue most_figure) _ investment.1 in
-    let assets = and_parts (leb f.total_assets most_figure) _ revenue.1 in
-    record {
-      investment = leb-true _ _ investment.0;
-      revenue = leb-true _ _ revenue.0;
-      total_assets = leb-true _ _ assets.0;
-      initial_value = leb-true _ _ assets.1;
-    }
-
 numbers-within : (f : InvesteeFields) → numbers_in_range f ≡ true → 1 ≤ f.kind → f.kind ≤ 6 → 1 ≤ f.size → f.size ≤ 5 → WithinRanges f
-numbers-within f e k l s t =
-    let id = and_parts (leb 1 f.id) _ e in
-    let top = and_parts (leb f.id last_id) _ id.1 in
-    let sector = and_parts (leb f.sector last_sector) _ top.1 in
-    let days = and_parts (leb f.days most_days) _ sector.1 in
-    record {
-      id_from = leb-true _ _ id.0;
-      id_to = leb-true _ _ top.0;
-      kind_from = k;
-      kind_to = l;
-      sector_to = leb-true _ _ sector.0;
-      size_from = s;
-      size_to = t;
-      days_to = leb-true _ _ days.0;
-      figures_to = limits-hold f.figures days.1;
-    }
+numbers-within f e k l s t = grind (arith, nat_tests)
 
 pub accepted-within : (f : InvesteeFields) → WithinRanges f → (p : Profile) × (profile_of f ≡ Ok p) × SameNumbers f p
 accepted-within f w =
