@@ -1,6 +1,7 @@
 -- What is known of a call that is not declined.
-use Rattle.std.proofs.Common.{◌≡◌, ℕ, ◌≤◌, Bool, true, false, not, ltb, leb, List, length, Some, None, Ok, Err, Option, Result, sym, refl, subst}
-use Rattle.std.proofs.lemmas.Bool.{or_parts, ltb-false, not-false}
+use Rattle.std.proofs.Common.{◌≡◌, ℕ, ◌≤◌, Bool, true, false, not, leb, List, length, Some, None, Ok, Err, Option, Result, sym, refl, subst, arith}
+use Rattle.std.proofs.lemmas.Bool.Decides.{nat_tests}
+use Rattle.std.proofs.lemmas.Bool.{not-false}
 use Rattle.faults.specs.declared.Fault.{Fault}
 use Rattle.faults.specs.declared.Refusal.{Refusal}
 use Rattle.rules.specs.Figures.{WithinLimits}
@@ -12,7 +13,7 @@ use Rattle.rules.specs.Investees.{profile_of}
 use Rattle.rules.specs.declared.investees.Profile.{Profile}
 use Rattle.sources.specs.declared.reading.Reading.{Reading}
 use Rattle.rules.proofs.Ranges.{within-accepted}
-use Rattle.plain.specs.Branches.{Branch, branch_count}
+use Rattle.plain.specs.Branches.{Branch}
 use Rattle.plain.specs.Changes.{posted, amended, changed}
 use Rattle.plain.specs.Limits.{most_investees, most_balance}
 use Rattle.plain.specs.PlainBook.{PlainInvestee, PlainPosition, PlainBook, investee_of, is_open, is_posted}
@@ -53,9 +54,7 @@ by-a-call t p c P ok accepted = by (declined t p c) refl
 -- ---- ranges
 
 pub branch-within : (b : ℕ) → branch_out_of_range b ≡ false → Branch b
-branch-within b e =
-    let parts = or_parts (ltb b 1) (ltb branch_count b) e in
-    (ltb-false b 1 parts.0, ltb-false branch_count b parts.1)
+branch-within b e = grind (arith, nat_tests)
 
 pub record EntryInRange (b m v : ℕ) : Type 0 where
   pub branch : Branch b
@@ -64,11 +63,7 @@ pub record EntryInRange (b m v : ℕ) : Type 0 where
   pub balance : v ≤ most_balance
 
 pub entry-within : (b m v : ℕ) → entry_out_of_range b m v ≡ false → EntryInRange b m v
-entry-within b m v e =
-    let one = or_parts (branch_out_of_range b) _ e in
-    let two = or_parts _ (ltb most_balance v) one.1 in
-    let three = or_parts (ltb m 1) (ltb months m) two.0 in
-    record { branch = branch-within b one.0; month-from = ltb-false m 1 three.0; month-to = ltb-false months m three.1; balance = ltb-false most_balance v two.1 }
+entry-within b m v e = grind (arith, nat_tests)
 
 -- ---- the calls
 

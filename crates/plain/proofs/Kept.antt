@@ -1,11 +1,11 @@
 -- What every run keeps: the empty book has it, and each call keeps it.
-use Rattle.std.proofs.Common.{◌≡◌, ℕ, ◌<◌, ◌≤◌, Bool, true, false, eqb, ltb, ◌≢◌, List, [], ◌∷◌, ◌++◌, map, length, pos, ◌≤ℤ◌, is_some, Some, None, Ok, Err, Result, sym, refl, ap, ◌∙◌, subst, ap₂, ⊎_elim, arith, rules}
-use lib.Signed.{lt_z}
+use Rattle.std.proofs.Common.{◌≡◌, ℕ, ◌<◌, ◌≤◌, Bool, true, false, eqb, ◌≢◌, List, [], ◌∷◌, ◌++◌, map, length, pos, ◌≤ℤ◌, is_some, Some, None, Ok, Err, Result, sym, refl, ap, ◌∙◌, subst, ap₂, ⊎_elim, arith, rules}
 use Rattle.std.specs.List.{AllByRecursion}
 use Rattle.std.proofs.ByRecursion.{All-push, All-weaker}
 use Rattle.std.proofs.lemmas.List.{length_push}
 use Rattle.std.proofs.lemmas.Int.{ints}
-use Rattle.std.proofs.lemmas.Bool.{both_ways, cases_eq, ne_eqb, cond-false, eqb-false, ltb-false, leb-false}
+use Rattle.std.proofs.lemmas.Bool.Decides.{nat_tests}
+use Rattle.std.proofs.lemmas.Bool.{both_ways, cases_eq, ne_eqb, cond-false, eqb-false, leb-false}
 use Rattle.faults.specs.declared.Fault.{Fault}
 use Rattle.rules.specs.Figures as figures
 use Rattle.rules.specs.Tables.{Tables}
@@ -22,7 +22,7 @@ use Rattle.plain.specs.PlainBook.{PlainInvestee, PlainPosition, PlainBook, empty
 use Rattle.plain.specs.Refused.{declined, too_much_lent, below_zero}
 use Rattle.plain.specs.Runs.{after}
 use Rattle.plain.specs.Steps.{Meaning, Step, enter, restate, reduce, post, amend, ask_part, ask_total, ask_sheet, ask_book_total, WithinSourceLimits}
-use Rattle.plain.proofs.Accepted.{by-a-call, Entered, checked-figures, refuse-none, if_open-none, if_read-none, opened-none, posted-none, amended-none}
+use Rattle.plain.proofs.Accepted.{by-a-call, Entered, checked-figures, if_open-none, if_read-none, opened-none, posted-none, amended-none}
 use Rattle.plain.proofs.Lists.{none_passes, still-found, found-by-key, found-changed, length-change, all-change, pairwise-change, pairwise-push, all_both}
 use Rattle.plain.proofs.Positions.{Differ, all-with-position, length-with-position, differ-with-position, new-in-range, length-amended, differ-amended, in-range-amended, all-amended, others-amended, others-posted}
 
@@ -38,9 +38,7 @@ no-positions id [] h = refl
 no-positions id (q ∷ qs) h = cond-false (eqb q.id id) _ _ (ne_eqb q.id id h.0) ∙ no-positions id qs h.1
 
 not-below-zero : (r : Reading) → below_zero r ≡ None → pos 0 ≤ℤ r.kilograms
-not-below-zero r e =
-    let h : lt_z r.kilograms (pos 0) ≡ false = (refuse-none (lt_z r.kilograms (pos 0)) _ _ e).0 in
-    grind (arith, ints)
+not-below-zero r e = grind (arith, ints)
 
 read-limits : (m : Meaning) (r : Reading) → m ≡ Ok r → WithinLimits m → InLimits r
 read-limits m r e h = subst WithinLimits e h
@@ -120,7 +118,7 @@ exposures-entered p id x qs ok found others P before own =
         (cases_eq (id_of y) id)
 
 within_limit : (t : Tables) (x : PlainInvestee) (qs : List PlainPosition) → too_much_lent t x qs ≡ None → exposure_to x qs ≤ most_exposure
-within_limit t x qs e = ltb-false most_exposure (exposure_to x qs) (refuse-none (ltb most_exposure (exposure_to x qs)) _ _ e).0
+within_limit t x qs e = grind (arith, nat_tests)
 
 -- an entry on positions that have what the book's own have
 kept-entered : (t : Tables) (p : PlainBook) (b id m v : ℕ) (was : Bool) (qs : List PlainPosition) → KeptByEveryRun p → Entered t p b id m v was (amended b id m v qs)

@@ -1,11 +1,12 @@
 -- What a post and an amendment leave of the positions.
-use Rattle.std.proofs.Common.{◌≡◌, ℕ, ◌-◌, ◌≤◌, true, false, not, eqb, leb, ◌≢◌, List, [], ◌∷◌, ◌++◌, length, replicate, is_some, Some, None, Option, unwrap_or, sym, refl, ap, ◌∙◌, ⊎_elim, arith, length-set}
+use Rattle.std.proofs.Common.{◌≡◌, ℕ, ◌-◌, ◌≤◌, true, false, eqb, ◌≢◌, List, [], ◌∷◌, ◌++◌, length, replicate, is_some, Some, None, Option, unwrap_or, sym, refl, ap, ◌∙◌, arith, length-set}
 use lib.ListN.{length-replicate}
 use Rattle.std.specs.List.{AllByRecursion}
 use Rattle.std.proofs.lemmas.List.Elements.{filter-append, All-replicate, recursion_from_All}
 use Rattle.std.proofs.ByRecursion.{All-push, All-set, All-weaker}
 use Rattle.std.proofs.lemmas.List.{append-nil, length_push}
-use Rattle.std.proofs.lemmas.Bool.{eqb-true, eq-eqb, ne_eqb, and_parts, and_cases, and_from, leb-false, not_from_false, both_ways, cond-false, cond_both}
+use Rattle.std.proofs.lemmas.Bool.Decides.{nat_tests}
+use Rattle.std.proofs.lemmas.Bool.{eqb-true, eq-eqb, ne_eqb, and_parts, and_from, both_ways, cond-false, cond_both}
 use Rattle.rules.specs.Months.{months}
 use Rattle.plain.specs.Branches.{Branch}
 use Rattle.plain.specs.Changes.{with_position, amended, posted}
@@ -30,12 +31,7 @@ module _ (b id : ℕ) (qs : List PlainPosition) where
   all-with-position P old new = cond_both (is_some (position_of b id qs)) _ _ (AllByRecursion P) (λ e. old) (λ e. All-push P qs (new_position b id) old new)
 
   pub length-with-position : no_room_for b id qs ≡ false → length qs ≤ most_positions → length (with_position b id qs) ≤ most_positions
-  length-with-position room few =
-      cond_both (is_some (position_of b id qs)) _ _ (λ rs. length rs ≤ most_positions) (λ e. few)
-      (λ e. ⊎_elim
-      (λ h. absurd (both_ways (not (is_some (position_of b id qs))) h (not_from_false _ e)))
-      (λ h. omega (arith, length_push qs (new_position b id), leb-false most_positions (length qs) h))
-      (and_cases (not (is_some (position_of b id qs))) (leb most_positions (length qs)) room))
+  length-with-position room few = grind (arith, nat_tests, length_push)
 
   pub differ-with-position : Pairwise Differ qs → Pairwise Differ (with_position b id qs)
   differ-with-position ok =

@@ -1,6 +1,7 @@
 -- What every run keeps under its rule: bases, amounts above zero, and bonds within their denominators.
-use Rattle.std.proofs.Common.{◌≡◌, ℕ, Bool, true, false, ◌≢◌, ◌&&◌, ltb, List, [], ◌∷◌, ◌++◌, map, is_ok, None, Ok, Err, Result, sym, refl, ap, subst, ap₂, arith}
+use Rattle.std.proofs.Common.{◌≡◌, ℕ, Bool, true, false, ◌≢◌, ◌&&◌, List, [], ◌∷◌, ◌++◌, map, is_ok, None, Ok, Err, Result, sym, refl, ap, subst, ap₂, arith}
 use Rattle.std.proofs.ByRecursion.{All-push}
+use Rattle.std.proofs.lemmas.Bool.Decides.{nat_tests}
 use Rattle.std.proofs.lemmas.Bool.{le-ltb, and_right}
 use Rattle.faults.specs.declared.Fault.{Fault}
 use Rattle.faults.specs.declared.Refusal.{Refusal}
@@ -13,14 +14,13 @@ use Rattle.sources.specs.declared.reading.Reading.{Reading}
 use Rattle.plain.specs.Changes.{opened, restated, reduced_by, read_into, added, changed}
 use Rattle.plain.specs.Exposures.{is_bond, exposure_to, lent_by, positions_on, denominator_from, denominator_of}
 use Rattle.plain.specs.Kept.{KeptByEveryRun, KeptUnderRule}
-use Rattle.plain.specs.Limits.{most_exposure}
 use Rattle.plain.specs.Lists.{change_first}
 use Rattle.plain.specs.Parts.{Denominator, at_least, whole, AboveZero, exposures}
 use Rattle.plain.specs.PlainBook.{PlainInvestee, PlainPosition, PlainBook, empty, with_investees, with_positions, has_id, is_open}
 use Rattle.plain.specs.Refused.{declined, too_much_lent, passes}
 use Rattle.plain.specs.Runs.{after}
 use Rattle.plain.specs.Steps.{Meaning, Step, enter, restate, reduce, post, amend, ask_part, ask_total, ask_sheet, ask_book_total, WithinSourceLimits}
-use Rattle.plain.proofs.Accepted.{by-a-call, Entered, checked-figures, refuse-none, opened-none, posted-none, amended-none}
+use Rattle.plain.proofs.Accepted.{by-a-call, Entered, checked-figures, opened-none, posted-none, amended-none}
 use Rattle.plain.proofs.Kept.{all-profiles, no-positions, no-position-yet, exposures-entered, same-profile}
 use Rattle.plain.proofs.Positions.{others-amended, others-posted}
 
@@ -62,7 +62,7 @@ ruled-read t p id change same ok = record {
 }
 
 bounded : (t : Tables) (x : PlainInvestee) (qs : List PlainPosition) → too_much_lent t x qs ≡ None → Bounded t x (exposure_to x qs)
-bounded t x qs e = (refuse-none (is_bond x.profile.kind && passes (exposure_to x qs) (denominator_of t x)) _ _ (refuse-none (ltb most_exposure (exposure_to x qs)) _ _ e).1).0
+bounded t x qs e = grind (arith, nat_tests)
 
 ruled-entered : (t : Tables) (p : PlainBook) (b id m v : ℕ) (was : Bool) (qs : List PlainPosition) → KeptByEveryRun p → KeptUnderRule t p → Entered t p b id m v was qs → ((j : ℕ) → j ≢ id → positions_on j qs ≡ positions_on j p.positions)
     → KeptUnderRule t (with_positions p qs)
