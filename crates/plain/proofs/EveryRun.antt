@@ -1,11 +1,12 @@
 -- Every run keeps every kilogram.
-use Rattle.std.proofs.Common.{◌≡◌, ℕ, false, not, eqb, ltb, ◌≢◌, List, [], ◌∷◌, ◌++◌, map, take, ℤ, ◌+ℤ◌, Some, filter, sym, refl, ◌∙◌, subst, ap₂}
+use Rattle.std.proofs.Common.{◌≡◌, ℕ, false, not, eqb, ◌≢◌, List, [], ◌∷◌, ◌++◌, map, take, ℤ, ◌+ℤ◌, Some, filter, sym, refl, ◌∙◌, subst, ap₂, arith}
 use Rattle.std.specs.List.{AllByRecursion}
 use Rattle.std.proofs.ByRecursion.{All-weaker, All-map, All-take, All-append, all_kept_by, kept_by_passes}
-use Rattle.std.proofs.lemmas.Bool.{cond_both, eqb-true, le-ltb, or_from}
+use Rattle.std.proofs.lemmas.Bool.Decides.{nat_tests}
+use Rattle.std.proofs.lemmas.Bool.{cond_both, eqb-true}
 use Rattle.rules.specs.Tables.{Tables, Lawful}
 use Rattle.rules.specs.declared.kinds.Kind.{Kind}
-use Rattle.plain.specs.Branches.{Branch, branch_count}
+use Rattle.plain.specs.Branches.{Branch}
 use Rattle.plain.specs.EveryRun.{measured, kilograms_in, ProjectsAndRestMakeAll, KeepsEveryKilogram, AtEachPoint, EveryRunKeepsEveryKilogram}
 use Rattle.plain.specs.Exposures.{positions_on, lent_by, lent_to, Measure, emissions, reductions, apportionment, apportionments}
 use Rattle.plain.specs.Kept.{KeptByEveryRun, KeptUnderRule}
@@ -62,7 +63,7 @@ measured-both emissions f = refl
 measured-both reductions f = refl
 
 in_range : (b : ℕ) → Branch b → branch_out_of_range b ≡ false
-in_range b h = or_from (ltb b 1) (ltb branch_count b) (le-ltb b 1 h.0) (le-ltb branch_count b h.1)
+in_range b h = grind (arith, nat_tests)
 
 module _ (t : Tables) (p : PlainBook) (m : Measure) where
   part-answered : (x : PlainInvestee) → investee_of (id_of x) p ≡ Some x → (b : ℕ) → Branch b → kilograms_in m (answer t p (ask_part (id_of x) b)) ≡ part (apportionment t p.positions m x) b

@@ -5,7 +5,8 @@ use Rattle.std.specs.List.{AllByRecursion}
 use Rattle.std.proofs.ByRecursion.{All-weaker, sum_by_le}
 use Rattle.std.proofs.lemmas.List.Sums.{sum_by-cons, sum_by-le}
 use Rattle.std.proofs.lemmas.List.Recursion.{is_sum_by}
-use Rattle.std.proofs.lemmas.Bool.{eqb-true, eqb-false, eq-eqb, ne_eqb, cond-true, cond-false, cond_both}
+use Rattle.std.proofs.lemmas.Bool.Decides.{nat_tests}
+use Rattle.std.proofs.lemmas.Bool.{eqb-true, ne_eqb, cond-false, cond_both}
 use Rattle.plain.specs.Exposures.{positions_on}
 use Rattle.plain.specs.Kept.{KeptByEveryRun}
 use Rattle.plain.specs.Lists.{first_of, Pairwise}
@@ -26,12 +27,11 @@ one-of-key key n (x ∷ xs) differ found =
     cond_both (eqb (key x) n) (Some x) (first_of (λ x. eqb (key x) n) xs) (λ o. is_some o ≡ true → sum_by (λ x. cond (eqb n (key x)) 1 0) (x ∷ xs) ≡ 1)
     (λ e h.
     let same : key x ≡ n = eqb-true (key x) n e in
-    let here = cond-true {A = ℕ} (eqb n (key x)) 1 0 (eq-eqb n (key x) (sym same)) in
-    let nowhere = sum-none (λ x. cond (eqb n (key x)) 1 0) xs (All-weaker _ _ (λ y ne. cond-false {A = ℕ} (eqb n (key y)) 1 0 (ne_eqb n (key y) (λ h. ne (sym h ∙ sym same)))) xs differ.0) in
-    omega (arith, sum_by-cons (λ x. cond (eqb n (key x)) 1 0) x xs, here, nowhere))
+    let nowhere : sum_by (λ x. cond (eqb n (key x)) 1 0) xs ≡ 0 = sum-none (λ x. cond (eqb n (key x)) 1 0) xs (All-weaker _ _ (λ y ne. cond-false (eqb n (key y)) 1 0 (ne_eqb n (key y) (λ h. ne (sym h ∙ sym same)))) xs differ.0) in
+    grind (arith, nat_tests, sum_by-cons (λ x. cond (eqb n (key x)) 1 0) x xs))
     (λ e h.
-    let elsewhere = cond-false {A = ℕ} (eqb n (key x)) 1 0 (ne_eqb n (key x) (λ h. eqb-false (key x) n e (sym h))) in
-    omega (arith, sum_by-cons (λ x. cond (eqb n (key x)) 1 0) x xs, elsewhere, one-of-key key n xs differ.1 h)) found
+    let rest : sum_by (λ x. cond (eqb n (key x)) 1 0) xs ≡ 1 = one-of-key key n xs differ.1 h in
+    grind (arith, nat_tests, sum_by-cons (λ x. cond (eqb n (key x)) 1 0) x xs)) found
 
 each_on : (xs : List PlainInvestee) (qs : List PlainPosition) → Pairwise (λ x y. id_of y ≢ id_of x) xs → AllByRecursion (λ q. is_some (first_of (has_id q.id) xs) ≡ true) qs → sum_by (λ x. length (positions_on (id_of x) qs)) xs ≡ length qs
 each_on xs [] differ found = omega (arith, sum_by-le (λ (x : PlainInvestee). 0) 0 xs (λ k d h. omega arith))

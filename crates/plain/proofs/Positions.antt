@@ -6,7 +6,7 @@ use Rattle.std.proofs.lemmas.List.Elements.{filter-append, All-replicate, recurs
 use Rattle.std.proofs.ByRecursion.{All-push, All-set, All-weaker}
 use Rattle.std.proofs.lemmas.List.{append-nil, length_push}
 use Rattle.std.proofs.lemmas.Bool.Decides.{nat_tests}
-use Rattle.std.proofs.lemmas.Bool.{eqb-true, eq-eqb, ne_eqb, and_parts, and_from, both_ways, cond-false, cond_both}
+use Rattle.std.proofs.lemmas.Bool.{ne_eqb, cond-false, cond_both}
 use Rattle.rules.specs.Months.{months}
 use Rattle.plain.specs.Branches.{Branch}
 use Rattle.plain.specs.Changes.{with_position, amended, posted}
@@ -39,7 +39,7 @@ module _ (b id : ℕ) (qs : List PlainPosition) where
       (λ e. pairwise-push Differ qs (new_position b id) ok (All-weaker _ _ other qs (none_passes (is_of b id) qs e)))
     where
       other : (q : PlainPosition) → is_of b id q ≡ false → Differ q (new_position b id)
-      other q e i n = absurd (both_ways (is_of b id q) e (and_from _ _ (eq-eqb q.branch b (sym n)) (eq-eqb q.id id (sym i))))
+      other q e i n = grind (arith, nat_tests)
 
   pub others-with-position : (j : ℕ) → j ≢ id → positions_on j (with_position b id qs) ≡ positions_on j qs
   others-with-position j ne =
@@ -80,7 +80,7 @@ module _ (b id m v : ℕ) where
   others-amended j ne qs = kept-changed (is_of b id) (with_balance m v) (λ q. eqb q.id j) apart (λ q. refl) qs
     where
       apart : (q : PlainPosition) → is_of b id q ≡ true → eqb q.id j ≡ false
-      apart q e = ne_eqb q.id j (λ h. ne (sym h ∙ eqb-true q.id id (and_parts (eqb q.branch b) (eqb q.id id) e).1))
+      apart q e = grind (arith, nat_tests)
 
   pub others-posted : (j : ℕ) → j ≢ id → (qs : List PlainPosition) → positions_on j (posted b id m v qs) ≡ positions_on j qs
   others-posted j ne qs = others-amended j ne (with_position b id qs) ∙ others-with-position b id qs j ne
