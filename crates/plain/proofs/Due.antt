@@ -1,5 +1,5 @@
 -- Each call is declined with the first refusal that is due.
-use Rattle.std.proofs.Common.{◌≡◌, ℕ, ◌<◌, ◌≤◌, Bool, true, false, not, ◌&&◌, eqb, ltb, leb, ◌≢◌, ◌⊎◌, List, [], ◌∷◌, length, ℤ, pos, ◌<ℤ◌, is_some, Some, None, Ok, Err, Option, Result, sym, refl, ap, ◌∙◌, subst, ap₂, inl, inr, ⊎_elim, arith}
+use Rattle.std.proofs.Common.{◌≡◌, ℕ, ◌<◌, ◌≤◌, Bool, true, false, not, eqb, ltb, leb, ◌≢◌, ◌⊎◌, List, [], ◌∷◌, length, ℤ, pos, ◌<ℤ◌, is_some, Some, None, Ok, Err, Option, Result, sym, refl, ap, ◌∙◌, subst, ap₂, inl, inr, ⊎_elim, arith}
 use lib.Signed.{lt_z}
 use Rattle.std.proofs.lemmas.Int.{ints}
 use Rattle.std.specs.Bool.{Decides}
@@ -26,7 +26,7 @@ use Rattle.plain.specs.Due.{Case, FirstDue, ◌due_if◌, source_fault, BelowZer
 use Rattle.plain.specs.Exposures.{is_bond, exposure_to, denominator_of}
 use Rattle.plain.specs.Limits.{most_investees, most_positions, most_balance, most_exposure}
 use Rattle.plain.specs.Parts.{Denominator, at_least, whole}
-use Rattle.plain.specs.PlainBook.{PlainInvestee, PlainPosition, PlainBook, investee_of, is_open, position_of, is_posted}
+use Rattle.plain.specs.PlainBook.{PlainInvestee, PlainPosition, PlainBook, investee_of, is_open, position_of}
 use Rattle.plain.specs.Refused.{refuse, if_in_range, if_based, if_open, if_read, branch_out_of_range, entry_out_of_range, bond_outside_closing, no_room_for, passes, too_much_lent, below_zero}
 use Rattle.plain.specs.Steps.{Meaning, enter, restate, reduce, post, amend, ask_part, ask_total, ask_sheet, ask_book_total}
 use Rattle.plain.proofs.Accepted.{checked-figures}
@@ -38,10 +38,10 @@ unfolding FirstDue
 none-due = refl
 
 -- a test that passes just where the refusal is due
-pub due-refuse : (Holds : Type 0) (test : Bool) (refusal : Refusal) (next : Option Fault) (later : List Case) → Decides test Holds → (test ≡ false → FirstDue later next)
+pub due-refuse : {Holds : Type 0} {test : Bool} (refusal : Refusal) (next : Option Fault) (later : List Case) → Decides test Holds → (test ≡ false → FirstDue later next)
     → FirstDue ((refusal due_if Holds) ∷ later) (refuse test refusal next)
 unfolding FirstDue
-due-refuse Holds test refusal next later decides rest = (
+due-refuse {Holds} {test} refusal next later decides rest = (
   λ f h. cond-true test _ _ (decides.1 h.0) ∙ ap Some (sym h.1),
   λ none. ⊎_elim
       (λ e. absurd (none (fault refusal 0 0) (decides.0 e, refl)))
@@ -65,7 +65,7 @@ due-source (Err g) next later rest = (λ f e. let same : g ≡ f = cc in ap Some
 
 due_below : (meaning : Meaning) (r : Reading) → meaning ≡ Ok r → FirstDue ((ReadingBelowZero due_if BelowZero meaning) ∷ []) (below_zero r)
 due_below meaning r e =
-    due-refuse (BelowZero meaning) (lt_z r.kilograms (pos 0)) ReadingBelowZero None []
+    due-refuse ReadingBelowZero None []
     (λ t. (r, e, over r.kilograms t), λ h. let same : h.0 ≡ r = cc in subst (λ (x : Reading). lt_z x.kilograms (pos 0) ≡ true) same (under h.0.kilograms h.2))
     (λ _. none-due)
   where
@@ -112,22 +112,21 @@ module _ (id : ℕ) (p : PlainBook) (x : PlainInvestee) (found : investee_of id 
       let is : h.0 ≡ x = cc in
       subst P is h.2
 
-  due-found : (P : PlainInvestee → Type 0) (test : Bool) (refusal : Refusal) (next : Option Fault) (later : List Case) → Decides test (P x) → FirstDue later next
+  due-found : (P : PlainInvestee → Type 0) {test : Bool} (refusal : Refusal) (next : Option Fault) (later : List Case) → Decides test (P x) → FirstDue later next
       → FirstDue ((refusal due_if OfOpen id p P) ∷ later) (refuse test refusal next)
-  due-found P test refusal next later decides rest =
-      due-refuse (OfOpen id p P) test refusal next later (Decides-like test (λ h. (x, found, h)) (same-one P) decides) (λ _. rest)
+  due-found P {test} refusal next later decides rest = due-refuse refusal next later (Decides-like test (λ h. (x, found, h)) (same-one P) decides) (λ _. rest)
 
   due-outside : (m : ℕ) (next : Option Fault) (later : List Case) → FirstDue later next
       → FirstDue ((BondOutsideClosingMonth due_if OfOpen id p (λ y. IsBond y × (m ≢ months))) ∷ later) (refuse (bond_outside_closing x m) BondOutsideClosingMonth next)
   due-outside m next later rest =
-      due-found (λ y. IsBond y × (m ≢ months)) (bond_outside_closing x m) BondOutsideClosingMonth next later
+      due-found (λ y. IsBond y × (m ≢ months)) BondOutsideClosingMonth next later
       (Decides-and (is_bond x.profile.kind) (not (eqb m months)) (bond-is x.profile.kind) (Decides-not (eqb m months) (eqb-true m months, eq-eqb m months))) rest
 
   due-lent : (t : Tables) (qs : List PlainPosition)
       → FirstDue ((ExposureTooLarge due_if OfOpen id p (λ y. most_exposure < exposure_to y qs)) ∷ (BondAboveDenominator due_if OfOpen id p (BondPasses t qs)) ∷ []) (too_much_lent t x qs)
   due-lent t qs =
-      due-found (λ y. most_exposure < exposure_to y qs) (ltb most_exposure (exposure_to x qs)) ExposureTooLarge _ _ (Decides-ltb most_exposure (exposure_to x qs))
-      (due-found (BondPasses t qs) (is_bond x.profile.kind && passes (exposure_to x qs) (denominator_of t x)) BondAboveDenominator None []
+      due-found (λ y. most_exposure < exposure_to y qs) ExposureTooLarge _ _ (Decides-ltb most_exposure (exposure_to x qs))
+      (due-found (BondPasses t qs) BondAboveDenominator None []
       (Decides-and (is_bond x.profile.kind) (passes (exposure_to x qs) (denominator_of t x)) (bond-is x.profile.kind) (passed (exposure_to x qs) (denominator_of t x))) none-due)
 
 -- ---- openings
@@ -190,27 +189,27 @@ refuses-rule t f x refusal has e = (x.kind, has.same_kind, ap (t.bases x.kind) (
 pub refused-when-due : RefusedWhenDue
 refused-when-due t lawful p (enter f meaning) =
     due-fields f _ _ (λ x ok has.
-    due-refuse (is_open f.id p ≡ true) (is_open x.id p) AlreadyOpen _ _ (λ h. ap (λ id. is_open id p) (sym has.same_id) ∙ h, λ h. ap (λ id. is_open id p) has.same_id ∙ h) (λ _.
-    due-refuse (most_investees ≤ length p.investees) (leb most_investees (length p.investees)) InvesteesFull _ _ (leb-true most_investees (length p.investees), le-leb most_investees (length p.investees)) (λ _.
+    due-refuse AlreadyOpen _ _ (λ h. ap (λ id. is_open id p) (sym has.same_id) ∙ h, λ h. ap (λ id. is_open id p) has.same_id ∙ h) (λ _.
+    due-refuse InvesteesFull _ _ (leb-true most_investees (length p.investees), le-leb most_investees (length p.investees)) (λ _.
     due-based (t.bases x.kind x.figures) (RuleRefuses t f) _ _ (lawful.bases_in_range x.kind x.figures (checked-figures f x ok)) (λ e h. rule-refuses t f x e has h) (λ e h. refuses-rule t f x e has h)
     (due-source meaning below_zero _ (λ r e. due_below meaning r e)))))
 refused-when-due t lawful p (restate id meaning) = due-open id p _ _ (λ x found. due-source meaning below_zero _ (λ r e. due_below meaning r e))
 refused-when-due t lawful p (reduce id meaning) = due-open id p _ _ (λ x found. due-source meaning (λ r. None) _ (λ r e. none-due))
 refused-when-due t lawful p (post b id m v) =
-    due-refuse (NoEntry b m v) (entry_out_of_range b m v) EntryOutOfRange _ _ (entry-out b m v) (λ _.
+    due-refuse EntryOutOfRange _ _ (entry-out b m v) (λ _.
     due-open id p _ _ (λ x found.
     due-outside id p x found m _ _
-    (due-refuse (is_posted b id m p.positions ≡ true) (is_posted b id m p.positions) MonthAlreadyPosted _ _ (λ h. h, λ h. h) (λ _.
-    due-refuse ((is_some (position_of b id p.positions) ≡ false) × (most_positions ≤ length p.positions)) (no_room_for b id p.positions) PositionsFull _ _ (full b id p.positions) (λ _.
+    (due-refuse MonthAlreadyPosted _ _ (λ h. h, λ h. h) (λ _.
+    due-refuse PositionsFull _ _ (full b id p.positions) (λ _.
     due-lent id p x found t (posted b id m v p.positions))))))
 refused-when-due t lawful p (amend b id m v) =
-    due-refuse (NoEntry b m v) (entry_out_of_range b m v) EntryOutOfRange _ _ (entry-out b m v) (λ _.
+    due-refuse EntryOutOfRange _ _ (entry-out b m v) (λ _.
     due-open id p _ _ (λ x found.
     due-outside id p x found m _ _
-    (due-refuse (is_posted b id m p.positions ≡ false) (not (is_posted b id m p.positions)) MonthNotPosted _ _ (not-true _, not_from_false _) (λ _.
+    (due-refuse MonthNotPosted _ _ (not-true _, not_from_false _) (λ _.
     due-lent id p x found t (amended b id m v p.positions)))))
 refused-when-due t lawful p (ask_part id b) =
-    due-refuse (NoBranch b) (branch_out_of_range b) EntryOutOfRange _ _ (branch-out b) (λ _. due-open id p _ _ (λ x found. none-due))
+    due-refuse EntryOutOfRange _ _ (branch-out b) (λ _. due-open id p _ _ (λ x found. none-due))
 refused-when-due t lawful p (ask_total id) = due-open id p _ _ (λ x found. none-due)
-refused-when-due t lawful p (ask_sheet b) = due-refuse (NoBranch b) (branch_out_of_range b) EntryOutOfRange _ _ (branch-out b) (λ _. none-due)
+refused-when-due t lawful p (ask_sheet b) = due-refuse EntryOutOfRange _ _ (branch-out b) (λ _. none-due)
 refused-when-due t lawful p ask_book_total = none-due
