@@ -9,7 +9,7 @@ use Rattle.faults.specs.Refusals.{fault}
 use Rattle.faults.specs.declared.Fault.{Fault}
 use Rattle.faults.specs.declared.Refusal.{Refusal}
 use Rattle.faults.specs.declared.Refusal.TheVariants.{KindNotCovered, FigureNotGiven, FieldOutOfRange, ReadingBelowZero, AlreadyOpen, InvesteesFull, NotOpen, EntryOutOfRange, BondOutsideClosingMonth, MonthAlreadyPosted, MonthNotPosted, PositionsFull, ExposureTooLarge, BondAboveDenominator}
-use Rattle.rules.specs.Investees.{profile_of, out_of_range, WithinRanges, SameNumbers}
+use Rattle.rules.specs.Investees.{profile_of, WithinRanges, SameNumbers}
 use Rattle.rules.specs.Kinds.{kind_number, kind_numbered}
 use Rattle.rules.specs.Months.{months}
 use Rattle.rules.specs.Tables.{Tables, BaseInRange}
@@ -18,7 +18,7 @@ use Rattle.rules.specs.declared.investees.InvesteeFields.{InvesteeFields}
 use Rattle.rules.specs.declared.investees.Profile.{Profile}
 use Rattle.rules.specs.declared.kinds.Kind.{Kind}
 use Rattle.rules.specs.declared.kinds.Kind.TheVariants.{Project, PropertyDevelopment, PropertyPurchase, Vehicle, GeneralLoan, Bond}
-use Rattle.rules.proofs.Ranges.{checks-ranges, within-accepted}
+use Rattle.rules.proofs.Ranges.{accepted-within, within-or-refused}
 use Rattle.sources.specs.declared.reading.Reading.{Reading}
 use Rattle.plain.specs.Branches.{branch_count}
 use Rattle.plain.specs.Changes.{posted, amended}
@@ -142,20 +142,15 @@ kind-of-number Bond = refl
 due-fields : (f : InvesteeFields) (next : Profile → Option Fault) (later : List Case) → ((x : Profile) → profile_of f ≡ Ok x → SameNumbers f x → FirstDue later (next x))
     → FirstDue ((FieldOutOfRange due_if (WithinRanges f → ⊥)) ∷ later) (if_in_range (profile_of f) next)
 unfolding FirstDue
-due-fields f next later rest = by (profile_of f) refl
-  where
-    by : (r : Result Profile Fault) → profile_of f ≡ r → FirstDue ((FieldOutOfRange due_if (WithinRanges f → ⊥)) ∷ later) (if_in_range r next)
-    by (Ok x) e = (
-      λ g h. absurd (h.0 (within-accepted f x e).0),
-      λ none. rest x e (within-accepted f x e).1,
-    )
-    by (Err g) e = (
-      λ h due.
-          let wrong : profile_of f ≡ out_of_range = (checks-ranges f).refused due.0 in
-          let same : g ≡ fault FieldOutOfRange 0 0 = cc in
-          ap Some (same ∙ sym due.1),
-      λ none. absurd (none (fault FieldOutOfRange 0 0) (λ w. let right = ((checks-ranges f).accepted w).1 in absurd cc, refl)),
-    )
+due-fields f next later rest =
+    ⊎_elim
+    (λ w. let one = accepted-within f w in
+    rw one.1 (λ g h. absurd (h.0 w), λ none. rest one.0 one.1 one.2))
+    (λ r. rw r (
+      λ g h. ap Some (sym h.1),
+      λ none. absurd (none (fault FieldOutOfRange 0 0) (λ w. let one = (accepted-within f w).1 in absurd cc, refl)),
+    ))
+    (within-or-refused f)
 
 due-based : (r : Result Base Refusal) (Refuses : Refusal → Type 0) (next : Option Fault) (later : List Case) → BaseInRange r
     → ((e : Refusal) → Refuses e → r ≡ Err e) → ((e : Refusal) → r ≡ Err e → Refuses e) → FirstDue later next

@@ -54,7 +54,7 @@ accepted-within f w =
       record { same_id = refl; same_kind = k.2; same_sector = refl; same_size = z.2; same_days = refl; same_figures = refl },
     )
 
-within-or-refused : (f : InvesteeFields) → WithinRanges f ⊎ (profile_of f ≡ out_of_range)
+pub within-or-refused : (f : InvesteeFields) → WithinRanges f ⊎ (profile_of f ≡ out_of_range)
 within-or-refused f = by (kind_numbered f.kind) (size_numbered f.size) refl refl
   where
     by : (k : Option Kind) (z : Option Size) → kind_numbered f.kind ≡ k → size_numbered f.size ≡ z → WithinRanges f ⊎ (profiled f k z ≡ out_of_range)
