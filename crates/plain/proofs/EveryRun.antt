@@ -107,18 +107,13 @@ kilograms-at t lawful p ok m = record {
 
 -- ---- runs
 
-pub kept-by-run : (t : Tables) (p : PlainBook) (calls : List Step) → AllByRecursion WithinSourceLimits calls → KeptByEveryRun p → KeptByEveryRun (run t p calls)
-kept-by-run t p [] limits ok = ok
-kept-by-run t p (c ∷ calls) limits ok = kept-by-run t (after t p c) calls limits.1 (kept-by-a-call t p c limits.0 ok)
-
-ruled-by-run : (t : Tables) → Lawful t → (p : PlainBook) (calls : List Step) → AllByRecursion WithinSourceLimits calls → KeptByEveryRun p → KeptUnderRule t p → KeptUnderRule t (run t p calls)
-ruled-by-run t lawful p [] limits kept ok = ok
-ruled-by-run t lawful p (c ∷ calls) limits kept ok =
-    ruled-by-run t lawful (after t p c) calls limits.1 (kept-by-a-call t p c limits.0 kept) (ruled-by-a-call t lawful p c limits.0 kept ok)
+by-run : (t : Tables) (P : PlainBook → Type 0) → ((p : PlainBook) (c : Step) → WithinSourceLimits c → P p → P (after t p c)) → (p : PlainBook) (calls : List Step) → AllByRecursion WithinSourceLimits calls → P p → P (run t p calls)
+by-run t P keeps p [] limits ok = ok
+by-run t P keeps p (c ∷ calls) limits ok = by-run t P keeps (after t p c) calls limits.1 (keeps p c limits.0 ok)
 
 pub at-each-point : (t : Tables) → Lawful t → (p : PlainBook) → KeptByEveryRun p → (calls : List Step) → AllByRecursion WithinSourceLimits calls → AtEachPoint t p calls
 at-each-point t lawful p ok calls limits k =
-    let kept = kept-by-run t p (take k calls) (All-take WithinSourceLimits k calls limits) ok in
+    let kept = by-run t KeptByEveryRun (kept-by-a-call t) p (take k calls) (All-take WithinSourceLimits k calls limits) ok in
     record { kept = kept; kilograms = kilograms-at t lawful (run t p (take k calls)) kept }
 
 pub every-run-keeps : EveryRunKeepsEveryKilogram
@@ -127,5 +122,7 @@ every-run-keeps = record {
   going_on = at-each-point;
   with_its_history = λ t lawful p calls limits before fair same. at-each-point t lawful empty kept-at-first (before ++ calls) (All-append WithinSourceLimits before calls fair limits);
   under_its_rule = λ t lawful p reached.
-      subst (KeptUnderRule t) reached.2 (ruled-by-run t lawful empty reached.0 reached.1 kept-at-first (ruled-at-first t));
+      let keeps : (p : PlainBook) (c : Step) → WithinSourceLimits c → KeptByEveryRun p × KeptUnderRule t p → KeptByEveryRun (after t p c) × KeptUnderRule t (after t p c) =
+      λ p c limits ok. (kept-by-a-call t p c limits ok.0, ruled-by-a-call t lawful p c limits ok.0 ok.1) in
+      subst (KeptUnderRule t) reached.2 (by-run t (λ p. KeptByEveryRun p × KeptUnderRule t p) keeps empty reached.0 reached.1 (kept-at-first, ruled-at-first t)).1;
 }

@@ -1,12 +1,12 @@
 -- Finding and changing one element of a list, and lists without two of a kind.
-use Rattle.std.proofs.Common.{◌≡◌, ℕ, suc, ◌+◌, ◌<◌, ◌≤◌, Bool, true, false, cond, not, eqb, ◌≢◌, List, [], ◌∷◌, ◌++◌, length, get_or, set, is_some, Some, None, Option, filter, sym, refl, ap, ◌∙◌, subst, one-add, arith}
+use Rattle.std.proofs.Common.{◌≡◌, ℕ, suc, ◌<◌, ◌≤◌, Bool, true, false, cond, not, eqb, ◌≢◌, List, [], ◌∷◌, ◌++◌, length, get_or, set, is_some, Some, None, Option, filter, sym, refl, ap, ◌∙◌, subst, ⊎_elim, one-add, arith}
 use Rattle.std.specs.List.{find, prefix_len, AllByRecursion}
 use Rattle.std.specs.Option.{option_or}
 use Rattle.std.proofs.ByRecursion.{All-weaker, All-push}
 use Rattle.std.proofs.lemmas.Option.{slice_get-get_or, slice_get_past}
 use Rattle.std.proofs.lemmas.List.Folds.{find_at, find-append}
 use Rattle.std.proofs.lemmas.List.Recursion.{same_from_clauses}
-use Rattle.std.proofs.lemmas.Bool.{eq-eqb, ne_eqb, cond-true, cond-false, cond_both}
+use Rattle.std.proofs.lemmas.Bool.{cases_Bool, eq-eqb, ne_eqb, cond-true, cond-false, cond_both}
 use Rattle.plain.specs.Lists.{first_of, change_first, Pairwise}
 
 pub all_both : {X : Type 0} (P Q : X → Type 0) (xs : List X) → AllByRecursion P xs → AllByRecursion Q xs → AllByRecursion (λ x. P x × Q x) xs
@@ -125,9 +125,8 @@ module _ {X : Type 0} (test : X → Bool) where
   pub change-at : (change : X → X) (xs : List X) (d : X) → place_of xs < length xs → change_first test change xs ≡ set xs (place_of xs) (change (get_or xs (place_of xs) d))
   unfolding change_first
   change-at change [] d h = absurd (omega arith)
-  change-at change (x ∷ xs) d h = by (test x) h (change-at change xs d)
-    where
-      by : (t : Bool) → cond (not t) (1 + prefix_len (λ x. not (test x)) xs) 0 < suc (length xs) → (prefix_len (λ x. not (test x)) xs < length xs → change_first test change xs ≡ set xs (prefix_len (λ x. not (test x)) xs) (change (get_or xs (prefix_len (λ x. not (test x)) xs) d)))
-          → cond t (change x ∷ xs) (x ∷ change_first test change xs) ≡ set (x ∷ xs) (cond (not t) (1 + prefix_len (λ x. not (test x)) xs) 0) (change (get_or (x ∷ xs) (cond (not t) (1 + prefix_len (λ x. not (test x)) xs) 0) d))
-      by true l rest = refl
-      by false l rest = rw one-add (ap (λ ys. x ∷ ys) (rest (omega arith)))
+  change-at change (x ∷ xs) d h =
+      ⊎_elim (λ e. rw e refl)
+      (λ e. let less = rw e at h in
+      rw (e, one-add) (ap (λ ys. x ∷ ys) (change-at change xs d (omega arith))))
+      (cases_Bool (test x))
