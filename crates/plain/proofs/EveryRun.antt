@@ -122,7 +122,7 @@ every-run-keeps = record {
   going_on = at-each-point;
   with_its_history = λ t lawful p calls limits before fair same. at-each-point t lawful empty kept-at-first (before ++ calls) (All-append WithinSourceLimits before calls fair limits);
   under_its_rule = λ t lawful p reached.
-      let keeps : (p : PlainBook) (c : Step) → WithinSourceLimits c → KeptByEveryRun p × KeptUnderRule t p → KeptByEveryRun (after t p c) × KeptUnderRule t (after t p c) =
-      λ p c limits ok. (kept-by-a-call t p c limits ok.0, ruled-by-a-call t lawful p c limits ok.0 ok.1) in
-      subst (KeptUnderRule t) reached.2 (by-run t (λ p. KeptByEveryRun p × KeptUnderRule t p) keeps empty reached.0 reached.1 (kept-at-first, ruled-at-first t)).1;
+      let kept : KeptByEveryRun (run t empty reached.0) × KeptUnderRule t (run t empty reached.0) =
+      by-run t (λ p. KeptByEveryRun p × KeptUnderRule t p) (λ p c limits ok. (kept-by-a-call t p c limits ok.0, ruled-by-a-call t lawful p c limits ok.0 ok.1)) empty reached.0 reached.1 (kept-at-first, ruled-at-first t) in
+      subst (KeptUnderRule t) reached.2 kept.1;
 }
