@@ -17,7 +17,7 @@ use Rattle.plain.specs.Branches.{Branch}
 use Rattle.plain.specs.Changes.{posted, amended, changed}
 use Rattle.plain.specs.Limits.{most_investees, most_balance}
 use Rattle.plain.specs.PlainBook.{PlainInvestee, PlainPosition, PlainBook, investee_of, is_open, is_posted}
-use Rattle.plain.specs.Refused.{refuse, if_open, if_in_range, if_based, if_read, branch_out_of_range, entry_out_of_range, bond_outside_closing, no_room_for, too_much_lent, below_zero, declined}
+use Rattle.plain.specs.Refused.{refuse, if_open, if_in_range, if_based, if_read, entry_out_of_range, bond_outside_closing, no_room_for, too_much_lent, below_zero, declined}
 use Rattle.plain.specs.Runs.{unless, after}
 use Rattle.plain.specs.Steps.{Meaning, Step, enter, post, amend}
 
@@ -52,9 +52,6 @@ by-a-call t p c P ok accepted = by (declined t p c) refl
     by (Some f) e = ok
 
 -- ---- ranges
-
-pub branch-within : (b : ℕ) → branch_out_of_range b ≡ false → Branch b
-branch-within b e = grind (arith, nat_tests)
 
 pub record EntryInRange (b m v : ℕ) : Type 0 where
   pub branch : Branch b

@@ -9,7 +9,7 @@ use Rattle.rules.specs.declared.kinds.Size.TheVariants.{Large, Medium, Small, Mi
 use Rattle.rules.specs.declared.investees.InvesteeFields.{InvesteeFields}
 use Rattle.rules.specs.declared.investees.Profile.{Profile}
 use Rattle.rules.specs.Kinds.{kind_number, kind_numbered, size_number, size_numbered}
-use Rattle.rules.specs.Investees.{numbers_in_range, profile, profiled, profile_of, out_of_range, WithinRanges, SameNumbers, Checked}
+use Rattle.rules.specs.Investees.{numbers_in_range, profile, profiled, profile_of, out_of_range, WithinRanges, SameNumbers}
 
 kind-from-number : (n : ℕ) → 1 ≤ n → n ≤ 6 → (k : Kind) × (kind_numbered n ≡ Some k) × (kind_number k ≡ n)
 kind-from-number zero low high = absurd (omega arith)
@@ -66,9 +66,6 @@ within-or-refused f = by (kind_numbered f.kind) (size_numbered f.size) refl refl
     by (Some k) None p q = inr refl
     by None z p q = inr refl
 
-pub refused-outside : (f : InvesteeFields) → (WithinRanges f → ⊥) → profile_of f ≡ out_of_range
-refused-outside f h = ⊎_elim (λ w. absurd (h w)) (λ r. r) (within-or-refused f)
-
 -- what is accepted was within its ranges, and has the fields' numbers
 pub within-accepted : (f : InvesteeFields) (p : Profile) → profile_of f ≡ Ok p → WithinRanges f × SameNumbers f p
 within-accepted f p e =
@@ -78,6 +75,3 @@ within-accepted f p e =
     (w, subst (SameNumbers f) same one.2))
     (λ r. absurd cc)
     (within-or-refused f)
-
-pub checks-ranges : (f : InvesteeFields) → Checked f (profile_of f)
-checks-ranges f = record { accepted = accepted-within f; refused = refused-outside f }
