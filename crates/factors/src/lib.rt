@@ -23,6 +23,7 @@ pub enum Row {
 }
 
 // A number that is no row's.
+// Not one type with those of marks and guides: each prints what has no such number.
 #[derive(Clone, Copy, Debug, PartialEq, Eq)]
 pub struct UnknownRow(pub u64);
 
@@ -80,7 +81,7 @@ pub fn whole_kilograms(tenths: u64) -> u64
 }
 
 // A quantity of what a row of the factor table measures, as a caller sends it: both numbers may be anything.
-#[derive(Clone, Copy, Debug, PartialEq, Eq)]
+#[derive(Clone, Copy, Debug, Default, PartialEq, Eq)]
 pub struct Activity {
     pub row: u64,
     pub quantity: u64,

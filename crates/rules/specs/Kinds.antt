@@ -1,10 +1,9 @@
 -- Kinds and sizes of investees, with their numbers.
-use Rattle.std.specs.Prelude.{◌≡◌, ℕ, cond, Some, None, Ok, Err, Option, Result, ◌==◌}
+use Rattle.std.specs.Prelude.{ℕ, cond, Some, None, Option, ◌==◌}
 use Rattle.rules.specs.declared.kinds.Kind.{Kind}
 use Rattle.rules.specs.declared.kinds.Kind.TheVariants.{Project, PropertyDevelopment, PropertyPurchase, Vehicle, GeneralLoan, Bond}
 use Rattle.rules.specs.declared.kinds.Size.{Size}
 use Rattle.rules.specs.declared.kinds.Size.TheVariants.{Large, Medium, Small, Micro, Person}
-use Rattle.rules.specs.declared.kinds.UnknownNumber.{UnknownNumber}
 
 abbrev pub kind_number : Kind → ℕ
 kind_number Project = 1
@@ -38,8 +37,3 @@ size_numbered n =
     (cond (n == 3) (Some Small)
     (cond (n == 4) (Some Micro)
     (cond (n == 5) (Some Person) None))))
-
--- the result is what a number names, or tells the number where it names nothing
-abbrev pub Names : {X : Type 0} → Option X → ℕ → Result X UnknownNumber → Type 0
-Names (Some x) n r = r ≡ Ok x
-Names None n r = r ≡ Err (record { 0 = n })

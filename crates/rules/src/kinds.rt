@@ -1,12 +1,14 @@
 // What is financed, and how large the investee is.
 ghost use Rattle.std.specs.Prelude.{◌≡◌, Some};
+ghost use Rattle.std.specs.Option.{ok_or};
 ghost use Rattle.faults.specs.Refusals.{fault};
 ghost use Rattle.faults.specs.declared.Refusal.TheVariants.{FieldOutOfRange};
-ghost use Rattle.rules.specs.Kinds.{kind_number, kind_numbered, size_number, size_numbered, Names};
+ghost use Rattle.rules.specs.Kinds.{kind_number, kind_numbered, size_number, size_numbered};
 
 use faults::{Fault, Refusal};
 
-// A number that names nothing of what is asked for, as no kind or no size.
+// A number that is no kind's or no size's.
+// Not one type with those of rows, marks and guides: only here is the number a field, which `?` refuses.
 #[derive(Clone, Copy, Debug, PartialEq, Eq)]
 pub struct UnknownNumber(pub u64);
 
@@ -43,7 +45,7 @@ impl From<Kind> for u8 {
 impl TryFrom<u64> for Kind {
     type Error = UnknownNumber;
 
-    ghost try_from_gives = { λ number r. Names (kind_numbered number) number r };
+    ghost try_from_gives = { λ number result. result ≡ ok_or (kind_numbered number) (record { 0 = number }) };
 
     fn try_from(number: u64) -> Result<Kind, UnknownNumber> {
         match number {
@@ -81,7 +83,7 @@ impl From<Size> for u8 {
 impl TryFrom<u64> for Size {
     type Error = UnknownNumber;
 
-    ghost try_from_gives = { λ number r. Names (size_numbered number) number r };
+    ghost try_from_gives = { λ number result. result ≡ ok_or (size_numbered number) (record { 0 = number }) };
 
     fn try_from(number: u64) -> Result<Size, UnknownNumber> {
         match number {

@@ -13,25 +13,22 @@ use std::fmt;
 // What a report is marked as.
 #[derive(Clone, Copy, Debug, PartialEq, Eq)]
 pub enum Mark {
-    Neither,
-    Verified,
-    Disclosed,
+    Neither = 0,
+    Verified = 1,
+    Disclosed = 2,
 }
 
-impl Mark {
-    // The number that a caller sends for the mark.
-    pub fn number(self) -> u64
-        ensures { result ≡ number_of_mark self }
-    {
-        match self {
-            Mark::Neither => 0,
-            Mark::Verified => 1,
-            Mark::Disclosed => 2,
-        }
+// The number that a caller sends for a mark.
+impl From<Mark> for u64 {
+    ghost from_gives = { λ mark n. n ≡ number_of_mark mark };
+
+    fn from(mark: Mark) -> u64 {
+        mark as u64
     }
 }
 
 // A number that is no mark's.
+// Not one type with those of rows and guides: each prints what has no such number.
 #[derive(Clone, Copy, Debug, PartialEq, Eq)]
 pub struct UnknownMark(pub u64);
 

@@ -42,7 +42,7 @@ pub fn worked_estimate() -> Result<Reading, Fault>
     };
     let below = Reported {
         kilograms: 1_050,
-        mark: Mark::Verified.number(),
+        mark: u64::from(Mark::Verified),
     };
     Estimate { figures, below }.read()
 }
