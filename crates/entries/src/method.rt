@@ -15,11 +15,6 @@ use sources::source::Source;
 // One term more than an energy bill may have: it tells a bill that is too long, and no further term matters.
 pub const MOST_HELD: usize = MOST_TERMS + 1;
 
-const NO_TERM: Activity = Activity {
-    row: 0,
-    quantity: 0,
-};
-
 // The terms of an energy bill in their order, as far as they matter.
 // A table with a count and no ArrayVec: methods are copied, and an ArrayVec is not Copy and wants a Default of its items.
 #[derive(Clone, Copy)]
@@ -34,7 +29,7 @@ impl Bill {
         ensures { result ≡ bill_of [] }
     {
         Bill {
-            terms: [NO_TERM; MOST_HELD],
+            terms: [Activity::default(); MOST_HELD],
             count: 0,
         }
     }
