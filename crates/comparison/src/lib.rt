@@ -14,8 +14,17 @@ use std::alloc::{AllocError, Global};
 
 mod texts;
 
-use crate::texts::{Answer, Divisor, Facts, Line};
+use crate::texts::{Answer, Divisor, Line};
 
+// An investee with its exposure over the year and its closing balance.
+#[derive(Clone, Copy, Debug, PartialEq, Eq)]
+pub struct Facts {
+    pub investee: Profile,
+    pub exposure: u64,
+    pub closing: u64,
+}
+
+// Each text has a function that gives it whole, so that no caller needs the contract of a `Display`.
 // What exposures are divided by, or the refusal's number.
 pub fn base_text(heap: Global, base: Result<Base, Refusal>) -> Result<String, AllocError>
     ensures { IfOk result (λ s. string_bytes s ≡ base_text base) }
@@ -31,36 +40,21 @@ pub fn answer_text(heap: Global, answer: Attribution) -> Result<String, AllocErr
 }
 
 // An investee by its numbers.
-pub fn facts_text(
-    heap: Global,
-    investee: Profile,
-    exposure: u64,
-    closing: u64,
-) -> Result<String, AllocError>
-    ensures { IfOk result (λ s. string_bytes s ≡ facts_text investee exposure closing) }
+pub fn facts_text(heap: Global, facts: Facts) -> Result<String, AllocError>
+    ensures { IfOk result (λ s. string_bytes s ≡ facts_text facts.investee facts.exposure facts.closing) }
 {
-    Facts {
-        investee,
-        exposure,
-        closing,
-    }
-    .to_string(heap)
+    facts.to_string(heap)
 }
 
 // The investee's numbers, then what the guides of the People's Bank and of Pudong say of it.
-pub fn line(
-    heap: Global,
-    investee: Profile,
-    exposure: u64,
-    closing: u64,
-) -> Result<String, AllocError>
-    ensures { IfOk result (λ s. string_bytes s ≡ line_text investee exposure closing) }
+pub fn line(heap: Global, facts: Facts) -> Result<String, AllocError>
+    ensures { IfOk result (λ s. string_bytes s ≡ line_text facts.investee facts.exposure facts.closing) }
 {
-    let facts = Facts {
+    let Facts {
         investee,
         exposure,
         closing,
-    };
+    } = facts;
     let national = attributed(&National, investee, exposure, closing);
     let pudong = attributed(&Pudong, investee, exposure, closing);
     Line {

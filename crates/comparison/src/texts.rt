@@ -2,9 +2,9 @@
 ghost use Rattle.std.specs.Prelude.{Some};
 ghost use Rattle.comparison.specs.Lines.{base_text, answer_text, facts_text, joined_text};
 
+use crate::Facts;
 use faults::Refusal;
 use rules::figures::Base;
-use rules::investees::Profile;
 use rules::rule::Attribution;
 use std::fmt;
 
@@ -39,14 +39,6 @@ impl fmt::Display for Answer {
         let reason = self.0.reason;
         write!(f, "{base}, reason {reason}")
     }
-}
-
-// An investee with its exposure over the year and its closing balance.
-#[derive(Clone, Copy)]
-pub(crate) struct Facts {
-    pub(crate) investee: Profile,
-    pub(crate) exposure: u64,
-    pub(crate) closing: u64,
 }
 
 impl fmt::Display for Facts {

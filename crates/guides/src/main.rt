@@ -4,7 +4,7 @@
 ghost use Rattle.std.specs.Prelude.{◌≡◌};
 ghost use Rattle.guides.specs.Rows.{fields_of};
 
-use comparison::line;
+use comparison::{Facts, line};
 use rules::figures::Figures;
 use rules::investees::InvesteeFields;
 use std::io;
@@ -193,7 +193,14 @@ const TABLE: [Row; 16] = [
 fn main(rt: HostRuntime) -> io::Result<()> {
     for row in TABLE {
         match row.fields().checked() {
-            Ok(investee) => rt.println(line(rt.alloc(), investee, row.exposure, row.closing)?)?,
+            Ok(investee) => {
+                let facts = Facts {
+                    investee,
+                    exposure: row.exposure,
+                    closing: row.closing,
+                };
+                rt.println(line(rt.alloc(), facts)?)?
+            }
             Err(fault) => {
                 let id = row.id;
                 let n = fault.refusal.number();
