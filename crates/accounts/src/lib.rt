@@ -7,6 +7,8 @@ ghost use Rattle.plain.specs.Layout.{kilograms_text, book_total_text, answer_tex
 use plain::answers::{Answer, BookTotal, Kilograms};
 use std::alloc::{AllocError, Global};
 
+// Each function promises the text of its type, so that no caller needs the contract of a `Display`.
+
 // Both measures.
 pub fn kilograms_text(heap: Global, kilograms: Kilograms) -> Result<String, AllocError>
     ensures { IfOk result (λ s. string_bytes s ≡ kilograms_text kilograms) }

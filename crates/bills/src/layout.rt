@@ -10,7 +10,7 @@ use std::alloc::{AllocError, Global};
 use std::error::Error;
 use std::fmt;
 
-// The line of one item, without its line feed.
+// The line of one item, without its line feed: no Display, since its number is its place in the bill.
 pub fn item_line(heap: Global, number: usize, item: Item) -> Result<String, AllocError>
     ensures { IfOk result (λ s. string_bytes s ≡ item_line number item) }
 {
@@ -39,6 +39,7 @@ impl fmt::Display for Cause {
     }
 }
 
+// The line of a refusal, without its line feed: no Display, since a fault prints in words of its own already.
 pub fn refusal_line(heap: Global, fault: Fault) -> Result<String, AllocError>
     ensures { IfOk result (λ s. string_bytes s ≡ refusal_line fault) }
 {

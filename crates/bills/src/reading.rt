@@ -30,12 +30,14 @@ pub fn read_item(line: &[u8]) -> Result<Item, LineError>
     Ok(Item::new(row, quantity, grade))
 }
 
+// A Result in a Result: want of memory is never mixed with what is said of the bill.
 fn read_lines(heap: Global, text: &[u8]) -> Result<Result<Vec<Item>, Malformed>, AllocError>
     requires { length text.now ≤ 65536 }
     ensures { IfOk result (λ a. Reads a (items_of 1 (pieces 10 text.now))) }
 {
     let mut items = Vec::new(heap);
     let mut lines = Pieces::new(text, b'\n');
+    // A `while let` and no `for`: its body asks `lines.rest` whether a line feed ended the line.
     while let Some(line) = lines.next() {
         if lines.rest.is_none() {
             if line.is_empty() {
@@ -52,6 +54,7 @@ fn read_lines(heap: Global, text: &[u8]) -> Result<Result<Vec<Item>, Malformed>,
 }
 
 // The items of a bill, line by line from the top; or why the text is none.
+// A Result in a Result: want of memory is never mixed with what is said of the bill.
 pub fn read_bill(heap: Global, text: &[u8]) -> Result<Result<Vec<Item>, Malformed>, AllocError>
     ensures { IfOk result (λ a. Reads a (items_in text.now)) }
 {

@@ -44,7 +44,7 @@ pub enum Refusal {
 }
 
 impl Refusal {
-    // The number that reports print.
+    // The number that reports print; no `From`: `Custom` holds its own, and callers read `refusal.number()`.
     pub fn number(self) -> u32
         ensures { result ≡ number_of self }
     {
@@ -83,6 +83,7 @@ impl Refusal {
 #[derive(Clone, Copy, Debug, PartialEq, Eq)]
 pub struct Fault {
     pub refusal: Refusal,
+    // Zeros for no place and no source, and no Options: pages print them, and a caller's source sets them.
     pub place: u32,
     pub source: u32,
 }

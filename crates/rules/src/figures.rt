@@ -7,7 +7,7 @@ use faults::Refusal;
 // The largest figure, in wan; one wan is ten thousand yuan.
 pub const MOST_FIGURE: u64 = 500_000_000;
 
-// Whole wan. A figure of 0 is not given.
+// Whole wan. A figure of 0 is not given: numbers and no Options, since callers and files send 0 for it.
 #[derive(Clone, Copy, Debug, PartialEq, Eq)]
 pub struct Figures {
     pub investment: u64,
@@ -29,6 +29,7 @@ impl Figures {
 }
 
 // What exposures are divided by: twelve times an amount in wan, or whatever they add up to.
+// An enum of its own and no Option: `Whole` is an answer of a rule, not the want of an amount.
 #[derive(Clone, Copy, Debug, PartialEq, Eq)]
 pub enum Base {
     Amount(u64),

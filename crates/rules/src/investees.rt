@@ -31,6 +31,7 @@ pub struct InvesteeFields {
 pub struct Profile {
     pub id: u32,
     pub kind: Kind,
+    // A number, as `LAST_SECTOR` has it: no guide tells sectors apart.
     pub sector: u8,
     pub size: Size,
     pub days: u16,

@@ -28,10 +28,12 @@ pub trait Rule {
 #[derive(Clone, Copy)]
 pub struct Attribution {
     pub base: Result<Base, Refusal>,
+    // The number that pages print: a caller's rule has reasons of its own, which no enum could list.
     pub reason: u8,
 }
 
 // What any rule says of an investee, by its exposure over the year and its closing balance.
+// The two stand beside the investee: a book adds them up from its table of positions.
 pub fn attributed<R: Rule>(rule: &R, investee: Profile, exposure: u64, closing: u64) -> Attribution
     ensures value { result ≡ attribution_of (R.tables rule.now) investee exposure closing }
     ensures range { InRange investee.figures result }
