@@ -23,18 +23,15 @@ fn tenths_of_gram(terms: &[Activity]) -> Result<u64, Fault>
     requires { length terms.now ≤ most_terms }
     ensures { result ≡ added terms.now }
 {
+    // A loop and no `try_fold`: tried, and the proof that the sum fits does not close.
     let mut sum = 0;
     for (i, term) in terms.iter().enumerate() {
-        match term.tenths_of_gram() {
-            Some(tenths) => sum += tenths,
-            None => {
-                return Err(Fault {
-                    refusal: Refusal::FigureOutOfRange,
-                    place: i as u32 + 1,
-                    source: Physical::NUMBER,
-                });
-            }
-        }
+        let tenths = term.tenths_of_gram().ok_or(Fault {
+            refusal: Refusal::FigureOutOfRange,
+            place: i as u32 + 1,
+            source: Physical::NUMBER,
+        })?;
+        sum += tenths;
     }
     Ok(sum)
 }
