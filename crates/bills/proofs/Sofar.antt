@@ -1,12 +1,11 @@
 -- The items of a bill read line by line.
-use Rattle.std.proofs.Common.{◌≡◌, ℕ, suc, ◌+◌, ◌≤◌, Bool, true, false, cond, eqb, List, [], ◌∷◌, ◌++◌, length, is_some, Some, None, Ok, Err, Option, Result, sym, refl, ap, ◌∙◌, append_assoc, append-nil, arith, Bor}
+use Rattle.std.proofs.Common.{◌≡◌, ℕ, suc, ◌+◌, ◌≤◌, Bool, true, false, cond, eqb, List, [], ◌∷◌, ◌++◌, length, is_some, Some, None, Ok, Err, Option, Result, sym, refl, ap, ◌∙◌, append_assoc, arith, Bor}
 use Rattle.std.proofs.lemmas.List.{length_push}
-use Rattle.std.proofs.lemmas.Bool.{cond-true, cond-false}
 use Rattle.lines.specs.declared.fields.LineError.{LineError}
 use Rattle.lines.specs.Fields.{pieces, onto, pieces_left}
 use Rattle.operations.specs.declared.items.Item.{Item}
 use Rattle.bills.specs.declared.reading.Malformed.{Malformed}
-use Rattle.bills.specs.declared.reading.Malformed.TheVariants.{Unended, Line}
+use Rattle.bills.specs.declared.reading.Malformed.TheVariants.{Line}
 use Rattle.bills.specs.Bills.{item_in, in_front, items_of}
 
 -- items read before, in front of what the rest reads as
@@ -18,14 +17,6 @@ after xs (Err m) = Err m
 pub record Sofar (ps : List (List ℕ)) (xs : List Item) (left : List (List ℕ)) : Type 0 where
   pub reads : items_of 1 ps ≡ after xs (items_of (length xs + 1) left)
   pub count : length xs + length left ≤ length ps
-
-after_none : (r : Result (List Item) Malformed) → after [] r ≡ r
-after_none (Ok ys) = refl
-after_none (Err m) = refl
-
-pub sofar-none : (ps left : List (List ℕ)) (xs : List Item) → xs ≡ [] → left ≡ ps → Sofar ps xs left
-sofar-none ps left xs no_items whole =
-    rw (no_items, whole) (record { reads = sym (after_none (items_of 1 ps)); count = omega arith })
 
 after_push : (n : ℕ) (xs : List Item) (x : Item) (r : Result (List Item) Malformed) → after xs (in_front n (Ok x) r) ≡ after (xs ++ x ∷ []) r
 after_push n xs x (Ok ys) = ap Ok (sym (append_assoc xs (x ∷ []) ys))
@@ -54,21 +45,6 @@ module _ (ps : List (List ℕ)) (xs : List Item) (left : List (List ℕ)) (so : 
       so.reads ∙ ap (λ l. after xs (items_of (length xs + 1) l)) is ∙ ap (after xs) (step (length xs + 1) p next some)
       ∙ ap (λ r. after xs (in_front (length xs + 1) r (items_of (length xs + 1 + 1) next))) (sym item)
 
-  -- the last piece is empty
-  pub sofar-last : (p : List ℕ) (next : List (List ℕ)) → left ≡ p ∷ next → next ≡ [] → eqb (length p) 0 ≡ true → items_of 1 ps ≡ Ok xs
-  sofar-last p next is last none =
-      so.reads ∙ ap (λ l. after xs (items_of (length xs + 1) l)) (is ∙ ap (λ l. p ∷ l) last)
-      ∙ ap (after xs) (cond-true (eqb (length p) 0) _ _ none) ∙ ap Ok (append-nil xs)
-
-  -- or a line that is not ended
-  pub sofar-unended : (p : List ℕ) (next : List (List ℕ)) → left ≡ p ∷ next → next ≡ [] → eqb (length p) 0 ≡ false → items_of 1 ps ≡ Err (Unended (length xs + 1))
-  sofar-unended p next is last some =
-      so.reads ∙ ap (λ l. after xs (items_of (length xs + 1) l)) (is ∙ ap (λ l. p ∷ l) last)
-      ∙ ap (after xs) (cond-false (eqb (length p) 0) _ _ some)
-
-  pub sofar-all : left ≡ [] → items_of 1 ps ≡ Ok xs
-  sofar-all is = so.reads ∙ ap (λ l. after xs (items_of (length xs + 1) l)) is ∙ ap Ok (append-nil xs)
-
 onto-length : (b : ℕ) (ps : List (List ℕ)) → 1 ≤ length ps → length (onto b ps) ≡ length ps
 onto-length b [] h = absurd (omega arith)
 onto-length b (p ∷ ps) h = refl
@@ -82,10 +58,6 @@ some-pieces separator (b ∷ bs) = by (eqb b separator) (some-pieces separator b
         → (1 ≤ length (cond t ([] ∷ pieces separator bs) (onto b (pieces separator bs)))) × (length (cond t ([] ∷ pieces separator bs) (onto b (pieces separator bs))) ≤ suc (length bs) + 1)
     by true h = (omega arith, omega arith)
     by false h = let e = onto-length b (pieces separator bs) h.0 in (omega arith, omega arith)
-
-pub left-none : (separator : ℕ) (o : Option (Bor (List ℕ))) → is_some o ≡ false → pieces_left separator o ≡ []
-left-none separator None h = refl
-left-none separator (Some r) h = let z : ◌≡◌ {A = ℕ} 0 1 = cc in absurd (omega arith)
 
 pub left-some : (separator : ℕ) (o : Option (Bor (List ℕ))) → is_some o ≡ true → 1 ≤ length (pieces_left separator o)
 left-some separator None h = let z : ◌≡◌ {A = ℕ} 0 1 = cc in absurd (omega arith)

@@ -20,6 +20,3 @@ returns-in-None-clause-value c =
 
 pub returns-in-Some-clause-cause : goal.returns-in-Some-clause-cause
 returns-in-Some-clause-cause c = refused-for c.args.items.now _ (returns-in-Some-clause-value c)
-
-pub returns-in-None-clause-cause : goal.returns-in-None-clause-cause
-returns-in-None-clause-cause c = refused-for c.args.items.now _ (returns-in-None-clause-value c)
