@@ -8,7 +8,7 @@ ghost use Rattle.rules.specs.Kinds.{kind_number, kind_numbered, size_number, siz
 use faults::{Fault, Refusal};
 
 // A number that is no kind's or no size's.
-// Not one type with those of rows, marks and guides: only here is the number a field, which `?` refuses.
+// Not one type with those of rows, marks and guides: only this one becomes a fault, of a field out of range.
 #[derive(Clone, Copy, Debug, PartialEq, Eq)]
 pub struct UnknownNumber(pub u64);
 
