@@ -1,18 +1,12 @@
-use Rattle.std.proofs.Common.{◌^◌, eqb, map, sym, ap, ◌∙◌, arith, rules, tests}
+use Rattle.std.proofs.Common.{eqb, map, sym, ap, ◌∙◌, rules, tests}
 use Rattle.std.proofs.lemmas.Iterator.{YieldsList-from_slice, YieldsList-from_map}
-use Rattle.std.proofs.lemmas.Iterator.Adapters.{fits_from_length, at_most_from_yields_List, at_most_from_Filter}
 use Rattle.std.proofs.lemmas.Iterator.Consumers.{YieldsList-at, YieldsList-from_filter, sum_by_from_yields_List}
 use Rattle.plain.specs.Exposures.{exposure_of, lent_by}
-use Rattle.plain.specs.Limits.{most_positions}
 use Rattle.plain.specs.Parts.{exposures}
 use Rattle.fixed_tables.specs.Tables.{rows_in}
 use Rattle.positions.specs.Rows.{plain_position}
 use Rattle.positions.proofs.Walks.{rows_on, on-view, exposures-rows}
 use Rattle.positions.proofs.Positions.exposure.Goals as goal
-
-pub sum-requires-clause-fits : goal.sum-requires-clause-fits
-sum-requires-clause-fits c =
-    fits_from_length _ _ most_positions (2 ^ 64) (at_most_from_Filter _ (at_most_from_yields_List (YieldsList-from_slice c.as_slice.result.now cc) c.as_slice.ensures.few)) c.map.ensures.closure (omega arith) (λ x r q k. search rules)
 
 pub returns : goal.returns
 returns c =

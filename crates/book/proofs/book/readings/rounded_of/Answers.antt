@@ -1,10 +1,7 @@
 use Rattle.std.proofs.Common.{◌≤◌, nat_abs, sym, subst}
 use Rattle.sources.specs.Limits.{most_kilograms}
-use Rattle.book.proofs.Words.{product-fits, rounded-word, rounded-small}
+use Rattle.book.proofs.Words.{rounded-word, rounded-small}
 use Rattle.book.proofs.book.readings.rounded_of.Goals as goal
-
-pub overflow_mul-result : goal.overflow_mul-result
-overflow_mul-result c = product-fits c.args.figure c.args.exposure c.args.base c.ranges.figure c.requires
 
 pub returns : goal.returns
 returns c =

@@ -1,4 +1,4 @@
-use Rattle.std.proofs.Common.{◌+◌, get_or, sym, refl, ap, ◌∙◌, subst, arith}
+use Rattle.std.proofs.Common.{◌+◌, get_or, sym, ap, ◌∙◌, subst, arith}
 use Rattle.plain.specs.Limits.{most_investees}
 use Rattle.plain.specs.Readings.{part_of}
 use Rattle.positions.specs.View.{positions_in}
@@ -11,9 +11,6 @@ use Rattle.book.proofs.Sheets.{part-figure}
 use Rattle.book.proofs.WithinBook.{fair-turn}
 use Rattle.book.proofs.book.readings.Held.add_parts.Goals as goal
 use Rattle.book.proofs.book.readings.Held.add_parts.Goals.{in-Some, in_default}
-
-pub loop-k-init : goal.loop-k-init
-loop-k-init g c = record { long = c.requires.long; has_part = λ n h. absurd (omega arith); as_before = λ n h. refl }
 
 pub shares-requires : goal.shares-requires
 shares-requires g c =
@@ -53,6 +50,3 @@ loop-k-preserved g c =
       | in_default w ↦ subst (λ l. AddedSofar (λ b. part_of t (plain book) b x) c.args.sums.now l (k + 1)) (sym w.sums-is)
           (no-part-added (λ b. part_of t (plain book) b x) c.args.sums.now now k c.loop-k-test.true c.loop-k.invariant (no_part t (plain book) (k + 1) x (sym at ∙ w.in_default.is)))
     ]
-
-pub returns : goal.returns
-returns g c = record { long = c.loop-k.invariant.long; has_part = λ n h. c.loop-k.invariant.has_part n (omega (arith, c.loop-k-test.false)) }

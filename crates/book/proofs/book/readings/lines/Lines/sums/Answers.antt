@@ -1,6 +1,5 @@
-use Rattle.std.proofs.Common.{ap, ◌∙◌, take_all}
+use Rattle.std.proofs.Common.{◌∙◌}
 use Rattle.plain.specs.Limits.{most_investees}
-use Rattle.book.specs.Lines.{sums_of}
 use Rattle.book.proofs.Adding.{none-sums, sums_none, sums-sofar-within, next-within, sums-more}
 use Rattle.book.proofs.Propositions.{lines_of}
 use Rattle.book.proofs.book.readings.lines.Lines.sums.Goals as goal
@@ -21,6 +20,3 @@ loop-line-preserved c =
     let lines = c.args.self.now.lines.now in
     c.plus-sums.ensures
     ∙ sums-more c.args.group c.args.self.now.lines.now c.loop-line.line-index c.loop-line-test.true (lines_of lines c.args.self.now.within) _ c.loop-line.sums c.taken.result c.loop-line.invariant c.taken.ensures
-
-pub returns : goal.returns
-returns c = c.loop-line.invariant ∙ ap (sums_of c.args.group) (take_all c.loop-line.line-index c.args.self.now.lines.now c.loop-line-test.false)
