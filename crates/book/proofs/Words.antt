@@ -24,11 +24,6 @@ quotient_fits z B h = small-fits (quot_z z (pos B)) (by z (div-le_self (up z) B)
     by (pos n) u d h = omega (arith, abs_is (quot_z (pos n) (pos B)), quot_is (pos n) B)
     by (negsuc n) u d h = omega (arith, abs_is (quot_z (negsuc n) (pos B)), quot_is (negsuc n) B)
 
-pub product-fits : (F : ℤ) (c B : ℕ) → SFits w64 F → Sizes F c B → SFits w64 (to_z w64 (of_z w64 F) *ℤ to_z w64 c)
-product-fits F c B f z =
-    let cs : to_z w64 c ≡ pos c = to_z_pos w64 c (omega (arith, z.exposure_within_limit)) in
-    rw (to_z-of_z w64 F f, cs) (small-fits (F *ℤ pos c) (product_small F c B z))
-
 -- the word that is worked out is the one that is meant
 pub rounded-word : (F : ℤ) (c B : ℕ) → SFits w64 F → Sizes F c B → to_z w64 (of_z w64 (quot_z (to_z w64 (of_z w64 (to_z w64 (of_z w64 F) *ℤ to_z w64 c))) (to_z w64 B))) ≡ rounded F c B
 unfolding rounded

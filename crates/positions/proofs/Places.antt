@@ -1,7 +1,7 @@
 -- Finding a row and changing it, by its place.
 use Rattle.std.proofs.Common.{◌≡◌, ℕ, zero, suc, ◌<◌, ◌≤◌, Bool, true, false, cond, ltb, List, [], ◌∷◌, ◌++◌, map, length, get_or, set, is_some, Some, None, Option, OnSome, IsSome, ◌↔◌, is_ok, Ok, Err, Result, sym, refl, ap, ◌∙◌, ⊎_elim, arith}
 use Rattle.std.specs.List.{AllByRecursion}
-use Rattle.std.proofs.lemmas.List.{length-map, get_or-map, get_or_default, map-set, map_push}
+use Rattle.std.proofs.lemmas.List.{length-map, get_or-map, map-set, map_push}
 use Rattle.std.proofs.lemmas.Option.{none-some}
 use Rattle.std.proofs.lemmas.Bool.{lt-ltb, le-ltb, cond-true, cond-false, cases_lt}
 use Rattle.plain.specs.Lists.{first_of, change_first}
@@ -35,12 +35,6 @@ module _ {X : Type 0} (test : X → Bool) (xs : List X) where
       (λ h. h)
       (cases_lt (place_of test xs) (length xs))
 
-  -- what the first that passes is
-  pub first-at-place : (k : ℕ) (d : X) → Some k ≡ first_place test xs → first_of test xs ≡ Some (get_or xs k d)
-  first-at-place k d e =
-      let at = place-of-some k e in
-      first-at test xs d (omega (arith, at.0, at.1)) ∙ ap (λ n. Some (get_or xs n d)) (sym at.0)
-
   pub first-nowhere : None ≡ first_place test xs → first_of test xs ≡ None
   first-nowhere e = first_past test xs (place-of-none e)
 
@@ -57,16 +51,6 @@ found_alike test (x ∷ xs) =
 module _ {X Y : Type 0} (view : X → Y) (test : Y → Bool) (xs : List X) (k : ℕ) (at : Some k ≡ first_place test (map view xs)) where
   pub row_within : k < length xs
   row_within = omega (arith, (place-of-some test (map view xs) k at).1, length-map xs view)
-
-  pub row-found : (row : X) → row ≡ get_or xs k row → first_of test (map view xs) ≡ Some (view row)
-  row-found row is =
-      first-at-place test (map view xs) k (view row) at
-      ∙ ap Some (get_or-map view xs k row (view row) row_within ∙ ap view (sym is))
-
-  -- the same, read at a place of the same list with any default
-  pub row-at : (read : List X) (d : X) → read ≡ xs → first_of test (map view xs) ≡ Some (view (get_or read k d))
-  row-at read d same =
-      row-found (get_or read k d) (get_or_default read k d (get_or read k d) (omega (arith, row_within, ap length same)) ∙ ap (λ l. get_or l k (get_or read k d)) same)
 
 -- ---- one change
 

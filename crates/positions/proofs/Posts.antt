@@ -1,5 +1,5 @@
 -- What a post and an amendment do to the positions of a table.
-use Rattle.std.proofs.Common.{◌≡◌, ℕ, Bool, true, false, cond, not, ◌&&◌, eqb, leb, List, [], ◌∷◌, ◌++◌, length, is_some, Some, None, Option, sym, refl, ap, ◌∙◌}
+use Rattle.std.proofs.Common.{◌≡◌, ℕ, Bool, true, false, cond, not, ◌&&◌, eqb, leb, List, [], ◌∷◌, ◌++◌, length, is_some, Some, None, sym, refl, ap, ◌∙◌}
 use Rattle.std.proofs.lemmas.Bool.{eq-eqb, and_from, cond-true, cond-false}
 use Rattle.plain.specs.Changes.{amended, posted}
 use Rattle.plain.specs.Limits.{most_positions}
@@ -10,10 +10,6 @@ use Rattle.positions.specs.Entries.{written, can_enter}
 use Rattle.positions.specs.Places.{first_place, change_at}
 use Rattle.positions.specs.Years.{in_year}
 use Rattle.positions.proofs.Places.{found_alike, first-idle, change-at-place, change-nowhere}
-
-pub none_anyway : (b : Bool) → ◌≡◌ {A = Option ℕ} None (cond b None None)
-none_anyway true = refl
-none_anyway false = refl
 
 module _ (b id m v : ℕ) (qs : List PlainPosition) where
   -- the position is there

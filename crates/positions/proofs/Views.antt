@@ -1,5 +1,5 @@
 -- What a chain over rows finds or adds up, as what their views give.
-use Rattle.std.proofs.Common.{◌≡◌, ◌+◌, Bool, true, false, cond, not, ◌||◌, nat_lt, List, [], ◌∷◌, map, is_some, Some, None, filter, sym, refl, ap}
+use Rattle.std.proofs.Common.{◌≡◌, ◌+◌, Bool, true, false, cond, not, ◌||◌, nat_lt, List, [], ◌∷◌, map, is_some, Some, None, find, option_map, filter, sym, refl, ap}
 use Rattle.std.specs.List.{position, position_or_len, list_any}
 use Rattle.std.proofs.lemmas.List.{length-map}
 use Rattle.plain.specs.Lists.{first_of}
@@ -23,6 +23,15 @@ module _ {X Y : Type 0} (view : X → Y) (test : Y → Bool) where
       by : (t : Bool) → list_any (λ x. test (view x)) xs ≡ is_some (first_of test (map view xs)) → (t || list_any (λ x. test (view x)) xs) ≡ is_some (cond t (Some (view x)) (first_of test (map view xs)))
       by true rest = refl
       by false rest = rest
+
+  pub find-view : (xs : List X) → option_map view (find (λ x. test (view x)) xs) ≡ first_of test (map view xs)
+  unfolding first_of
+  find-view [] = refl
+  find-view (x ∷ xs) = by (test (view x)) (find-view xs)
+    where
+      by : (t : Bool) → option_map view (find (λ x. test (view x)) xs) ≡ first_of test (map view xs) → option_map view (cond t (Some x) (find (λ x. test (view x)) xs)) ≡ cond t (Some (view x)) (first_of test (map view xs))
+      by true e = refl
+      by false e = e
 
   pub filter-view : (xs : List X) → map view (filter (λ x. test (view x)) xs) ≡ filter test (map view xs)
   filter-view [] = refl

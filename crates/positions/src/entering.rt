@@ -1,11 +1,12 @@
 // Finding positions, and entering their balances, by the numbers that the plain book's changes are told by.
-ghost use Rattle.std.specs.Prelude.{◌≡◌, [], ◌∷◌, ◌++◌, length, IfOk, is_ok, if◌then◌else◌, None, not, nat_le};
+ghost use Rattle.std.specs.Prelude.{◌≡◌, [], ◌∷◌, ◌++◌, length, IfOk, is_ok, if◌then◌else◌, None, option_map, not, nat_le};
 ghost use Rattle.plain.specs.Changes.{amended, posted};
 ghost use Rattle.plain.specs.Limits.{most_positions};
 ghost use Rattle.plain.specs.PlainBook.{is_of, position_of, new_position};
 ghost use Rattle.plain.specs.Refused.{no_room_for};
 ghost use Rattle.positions.specs.Entries.{balance_in, written, can_enter};
 ghost use Rattle.positions.specs.Places.{first_place, change_at};
+ghost use Rattle.positions.specs.Rows.{plain_position};
 ghost use Rattle.positions.specs.View.{positions_in};
 ghost use Rattle.positions.specs.Years.{in_year};
 
@@ -33,12 +34,22 @@ impl Positions {
             .position(|row| row.is_of(branch, id))
     }
 
+    // The position of a branch on the investee of an id.
+    fn position(&self, branch: u64, id: u64) -> Option<PositionRow>
+        ensures { option_map plain_position result ≡ position_of branch id (positions_in self.now) }
+    {
+        self.rows
+            .as_slice()
+            .iter()
+            .find(|row| row.is_of(branch, id))
+            .copied()
+    }
+
     // The balance of a month of a branch on the investee of an id, if it was posted.
     pub fn balance(&self, branch: u64, id: u64, month: u64) -> Option<u32>
         ensures { result ≡ (if in_year month then balance_in month (position_of branch id (positions_in self.now)) else None) }
     {
-        let at = self.place(branch, id)?;
-        self.rows.as_slice()[at].balance(month)
+        self.position(branch, id)?.balance(month)
     }
 
     // How many positions there are.
@@ -74,8 +85,8 @@ impl Positions {
         }
     }
 
-    // Enters the balance of a month, at a new position if there is none, and says whether it could: nothing else is to say
-    // where it could not.
+    // Enters the balance of a month, at a new position if there is none, and says whether it could: the year has the month,
+    // and there is a position or room for one.
     pub fn enter(&mut self, branch: u8, id: u32, month: u64, balance: u32) -> bool
         ensures entered { result ≡ can_enter branch id month (positions_in self.old) }
         ensures positions { positions_in self.new ≡ (if result then posted branch id month balance (positions_in self.old) else positions_in self.old) }

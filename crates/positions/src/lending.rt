@@ -32,10 +32,11 @@ fn note(turns: &mut [Option<Turn>], branch: u8, turn: Turn)
 {
     if !branch_out_of_range(u64::from(branch)) {
         let at = usize::from(branch) - 1;
-        turns[at] = Some(turns[at].unwrap_or(turn));
+        turns[at].get_or_insert(turn);
     }
 }
 
+// Each reads the rows on one investee by the same chain: a function cannot give it, since its type has no name.
 impl Positions {
     // The exposures to an investee, added up.
     pub fn exposure(&self, investee: Profile) -> u64

@@ -7,7 +7,7 @@ use Rattle.plain.specs.PlainBook.{has_id}
 use Rattle.book.specs.declared.rows.InvesteeRow.{InvesteeRow}
 use Rattle.book.specs.Entries.{plain_result}
 use Rattle.book.specs.Rows.{plain_investee}
-use Rattle.book.proofs.Finding.{find-view}
+use Rattle.positions.proofs.Views.{find-view}
 use Rattle.book.proofs.book.Book.investee.Goals as goal
 
 as-plain : (o : Option InvesteeRow) (f : Fault) → plain_result (ok_or o f) ≡ ok_or (option_map plain_investee o) f
