@@ -21,7 +21,7 @@ mod running;
 // One lender's book under one rule, with room for all that it can hold: no call after the first wants memory.
 #[derive(Drop)]
 pub struct Book<'r, R: Rule> {
-    // Each call says that the rule stays, since callers know only what a clause tells them.
+    // Each call says by three clauses what the book, its rule and the answer then are: contracts are read one by one.
     rule: &'r R,
     investees: Table<InvesteeRow, MOST_INVESTEES>,
     positions: Positions,

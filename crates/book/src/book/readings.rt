@@ -26,7 +26,8 @@ mod accounts;
 mod lines;
 pub mod sheets;
 
-// What the exposures to an investee, added up, are divided by: a base of 0 is taken as 1.
+// What the exposures to an investee, added up, are divided by: a base of 0 is taken as 1. An investee that the rule refuses
+// is never opened; its base would be the whole.
 fn base_of(base: Result<Base, Refusal>, exposure: u64) -> u64
     requires { BaseInRange base }
     ensures { result ≡ max 1 (base_of (denominator_from base) exposure) }
@@ -55,14 +56,14 @@ fn difference(upto: i64, before: i64) -> i64
     upto - before
 }
 
-// What of a figure falls to an exposure, after the exposures before it.
-fn gained(figure: i64, before: u64, exposure: u64, base: u64) -> i64
-    requires { Sizes figure (before + exposure) base }
-    ensures { result ≡ rounded figure (before + exposure) base -ℤ rounded figure before base }
+// What of a figure falls to a turn, after the exposures before it.
+fn gained(figure: i64, turn: Turn, base: u64) -> i64
+    requires { Sizes figure (turn.before + turn.exposure) base }
+    ensures { result ≡ rounded figure (turn.before + turn.exposure) base -ℤ rounded figure turn.before base }
 {
     difference(
-        rounded_of(figure, before + exposure, base),
-        rounded_of(figure, before, base),
+        rounded_of(figure, turn.before + turn.exposure, base),
+        rounded_of(figure, turn.before, base),
     )
 }
 
@@ -85,7 +86,8 @@ fn added(all: Kilograms, more: Kilograms) -> Kilograms
     }
 }
 
-// The positions and exposures on an investee, what its figures are divided by, and the reason for which the rule leaves it out, or 0.
+// The positions and exposures on an investee, what its figures are divided by, and the reason for which the rule leaves it
+// out, as pages print it: 0 where it is counted.
 #[derive(Clone, Copy)]
 struct Standing {
     positions: u64,
@@ -100,41 +102,41 @@ impl Standing {
     {
         self.reason == 0
     }
-}
 
-// What of one figure falls to a turn.
-fn share(standing: Standing, turn: Turn, figure: i64) -> i64
-    requires { Sizes figure (turn.before + turn.exposure) standing.base }
-    ensures { result ≡ falls standing turn figure }
-{
-    if standing.is_counted() {
-        gained(figure, turn.before, turn.exposure, standing.base)
-    } else {
-        0
+    // What of one figure falls to a turn.
+    fn share(self, turn: Turn, figure: i64) -> i64
+        requires { Sizes figure (turn.before + turn.exposure) self.base }
+        ensures { result ≡ falls self turn figure }
+    {
+        if self.is_counted() {
+            gained(figure, turn, self.base)
+        } else {
+            0
+        }
     }
-}
 
-// What of both figures falls to a turn.
-fn shares(standing: Standing, turn: Turn, row: InvesteeRow) -> Kilograms
-    requires { Fair standing turn (plain_investee row) }
-    ensures { result ≡ both_fall standing turn (plain_investee row) }
-{
-    Kilograms {
-        emissions: share(standing, turn, row.reading.kilograms),
-        reductions: share(standing, turn, row.reduction.unwrap_or(0)),
+    // What of both figures falls to a turn.
+    fn shares(self, turn: Turn, row: InvesteeRow) -> Kilograms
+        requires { Fair self turn (plain_investee row) }
+        ensures { result ≡ both_fall self turn (plain_investee row) }
+    {
+        Kilograms {
+            emissions: self.share(turn, row.reading.kilograms),
+            reductions: self.share(turn, row.reduction.unwrap_or(0)),
+        }
     }
-}
 
-// What of both figures falls to all branches together, as to one turn.
-fn whole_shares(standing: Standing, row: InvesteeRow) -> Kilograms
-    requires { Fair standing (whole_turn standing) (plain_investee row) }
-    ensures { result ≡ all_falls standing (plain_investee row) }
-{
-    let turn = Turn {
-        before: 0,
-        exposure: standing.exposure,
-    };
-    shares(standing, turn, row)
+    // What of both figures falls to all branches together, as to one turn.
+    fn whole_shares(self, row: InvesteeRow) -> Kilograms
+        requires { Fair self (whole_turn self) (plain_investee row) }
+        ensures { result ≡ all_falls self (plain_investee row) }
+    {
+        let turn = Turn {
+            before: 0,
+            exposure: self.exposure,
+        };
+        self.shares(turn, row)
+    }
 }
 
 // An investee of a book.
@@ -167,7 +169,7 @@ impl<'b, 'r, R: Rule> Held<'b, 'r, R> {
     {
         let profile = self.row.profile;
         let turn = self.book.positions.turn(profile, branch);
-        shares(self.standing(), turn, self.row)
+        self.standing().shares(turn, self.row)
     }
 
     // Its total, rounded once.
@@ -176,7 +178,7 @@ impl<'b, 'r, R: Rule> Held<'b, 'r, R> {
     {
         let standing = self.standing();
         InvesteeTotal {
-            kilograms: whole_shares(standing, self.row),
+            kilograms: standing.whole_shares(self.row),
             reason: standing.reason,
             grade: self.row.reading.grade,
         }

@@ -20,6 +20,7 @@ impl<'r, R: Rule> Book<'r, R> {
     {
         let at = self.place(id)?;
         let reading = emissions(source)?;
+        // `place` found it, so there is a row.
         if let Some(row) = self.investees.get_mut(at) {
             *row = row.restated(reading);
         }
@@ -34,6 +35,7 @@ impl<'r, R: Rule> Book<'r, R> {
     {
         let at = self.place(id)?;
         let reading = source.read()?;
+        // `place` found it, so there is a row.
         if let Some(row) = self.investees.get_mut(at) {
             *row = row.reduced_by(reading);
         }

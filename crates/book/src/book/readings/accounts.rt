@@ -58,7 +58,8 @@ impl<'r, R: Rule> Book<'r, R> {
         Some(Held { book: self, row }.account())
     }
 
-    // Every investee with its total, in the order of the openings, and None in the places after them.
+    // Every investee with its total, in the order of the openings, and None in the places after them: a table like that of
+    // `sheets`, so that a page goes over both alike.
     pub fn accounts(&self) -> [Option<InvesteeAccount>; MOST_INVESTEES]
         ensures { result ≡ listed most_investees (accounts_of (R.tables self.now.rule.now) (plain self.now)) }
     {

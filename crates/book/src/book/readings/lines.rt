@@ -15,7 +15,7 @@ use rules::kinds::Kind;
 mod totals;
 
 // One investee: what falls to all branches, and how many positions there are on it, with what tells whether it is counted.
-// Each flag is counted by itself: no value of a line is missing where one of them is false.
+// Three flags: the sums count each by itself.
 #[derive(Clone, Copy, Default)]
 struct Line {
     project: bool,
@@ -123,28 +123,30 @@ impl Group {
     }
 }
 
-// One line more.
-fn plus(sums: Sums, line: Line) -> Sums
-    requires { AtMostLines most_investees sums × LineWithinLimits line }
-    ensures { result ≡ plus_line sums line }
-{
-    Sums {
-        kilograms: added(sums.kilograms, line.kilograms),
-        positions: sums.positions + line.positions,
-        counted: sums.counted + line.counted_positions(),
-        reduced: sums.reduced + line.reduced_positions(),
+impl Sums {
+    // With the figures of one line more.
+    fn plus(self, line: Line) -> Sums
+        requires { AtMostLines most_investees self × LineWithinLimits line }
+        ensures { result ≡ plus_line self line }
+    {
+        Sums {
+            kilograms: added(self.kilograms, line.kilograms),
+            positions: self.positions + line.positions,
+            counted: self.counted + line.counted_positions(),
+            reduced: self.reduced + line.reduced_positions(),
+        }
     }
-}
 
-// What sums say of their group: its kilograms, and how many of its positions these cover.
-fn subtotal_from(sums: Sums) -> Subtotal
-    requires { AtMostLines most_investees sums }
-    ensures { result ≡ subtotal_from sums }
-{
-    Subtotal {
-        kilograms: sums.kilograms,
-        emissions_cover: hundredths(sums.counted, sums.positions),
-        reductions_cover: hundredths(sums.reduced, sums.positions),
+    // What they say of their group: its kilograms, and how many of its positions these cover.
+    fn subtotal(self) -> Subtotal
+        requires { AtMostLines most_investees self }
+        ensures { result ≡ subtotal_from self }
+    {
+        Subtotal {
+            kilograms: self.kilograms,
+            emissions_cover: hundredths(self.counted, self.positions),
+            reductions_cover: hundredths(self.reduced, self.positions),
+        }
     }
 }
 
@@ -164,7 +166,7 @@ impl<'l> Lines<'l> {
         let mut sums = Sums::default();
         // A `for` and no fold: the bound on each sum so far is the loop's invariant.
         for line in self.lines {
-            sums = plus(sums, group.taken(*line));
+            sums = sums.plus(group.taken(*line));
         }
         sums
     }
@@ -173,7 +175,7 @@ impl<'l> Lines<'l> {
     fn subtotal(&self, group: Group) -> Subtotal
         ensures { result ≡ subtotal_from (sums_of group self.now.lines.now) }
     {
-        subtotal_from(self.sums(group))
+        self.sums(group).subtotal()
     }
 
     // The book total: for projects, for the rest and for all, with one mean grade.

@@ -12,7 +12,7 @@ ghost use Rattle.plain.specs.Told.{told};
 ghost use Rattle.book.specs.View.{plain};
 
 use crate::book::Book;
-use crate::book::readings::{Held, added, shares};
+use crate::book::readings::{Held, added};
 use faults::{Fault, Refusal};
 use plain::answers::Kilograms;
 use plain::limits::{BRANCH_ROWS, branch_out_of_range};
@@ -31,7 +31,7 @@ impl<'b, 'r, R: Rule> Held<'b, 'r, R> {
         // By index: after a `zip` over `iter_mut` a proof knows nothing of what was written.
         for (k, turn) in turns.iter().enumerate() {
             if let Some(turn) = turn {
-                sums[k] = added(sums[k], shares(standing, *turn, self.row));
+                sums[k] = added(sums[k], standing.shares(*turn, self.row));
             }
         }
     }

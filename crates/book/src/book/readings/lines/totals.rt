@@ -9,8 +9,8 @@ ghost use Rattle.book.specs.Rows.{plain_investee};
 ghost use Rattle.book.specs.View.{plain};
 
 use crate::book::Book;
+use crate::book::readings::Held;
 use crate::book::readings::lines::{Line, Lines, is_project};
-use crate::book::readings::{Held, whole_shares};
 use plain::answers::BookTotal;
 use plain::limits::MOST_INVESTEES;
 use rules::rule::Rule;
@@ -24,7 +24,7 @@ impl<'b, 'r, R: Rule> Held<'b, 'r, R> {
         let standing = self.standing();
         Line {
             project: is_project(self.row.profile.kind),
-            kilograms: whole_shares(standing, self.row),
+            kilograms: standing.whole_shares(self.row),
             positions: standing.positions,
             counted: standing.is_counted(),
             reduced: self.row.reduction.is_some(),
@@ -45,7 +45,8 @@ impl<'r, R: Rule> Book<'r, R> {
         Held { book: self, row }.line()
     }
 
-    // The lines of all investees, in the order of their openings. The rest of the table stays empty.
+    // The lines of all investees, in the order of their openings. The rest of the table stays empty: an array is made by one
+    // closure, and an ArrayVec would be filled by a loop.
     fn lines(&self) -> [Line; MOST_INVESTEES]
         ensures { take (length (rows_in self.now.investees)) result ≡ map (line_of (R.tables self.now.rule.now) (plain self.now)) (plain self.now).investees }
     {
