@@ -8,7 +8,7 @@ use rules::investees::Profile;
 use sources::reading::Reading;
 
 // An investee with its last reading, and its reduction once one is set.
-#[derive(Clone, Copy)]
+#[derive(Clone, Copy, Debug)]
 pub struct InvesteeRow {
     pub profile: Profile,
     pub reading: Reading,

@@ -58,8 +58,10 @@ impl<'r, R: Rule> Book<'r, R> {
     {
         let profile = self.taken(fields)?;
         let reading = emissions(source)?;
-        // That there is room was asked already, by `taken`.
-        let _ = self.investees.push(InvesteeRow::opened(profile, reading));
+        // There is room: `taken` asked.
+        self.investees
+            .push(InvesteeRow::opened(profile, reading))
+            .unwrap();
         Ok(())
     }
 }

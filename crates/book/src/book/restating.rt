@@ -1,4 +1,4 @@
-// Other readings for investees that are open.
+// Other readings for investees that are open, by two calls: each takes readings of its own, and writes a field of its own.
 ghost use Rattle.std.specs.Prelude.{◌≡◌};
 ghost use Rattle.plain.specs.Runs.{after, answer};
 ghost use Rattle.plain.specs.Steps.{restate, reduce};
