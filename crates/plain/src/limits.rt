@@ -36,7 +36,8 @@ pub fn entry_out_of_range(branch: u64, month: u64, balance: u64) -> bool
     branch_out_of_range(branch) || !(1..=MONTHS).contains(&month) || balance > MOST_BALANCE
 }
 
-// Whether a book of so many investees takes no other. This and the next are one comparison each, shorter than a function over any limit.
+// Whether a book of so many investees takes no other. Books ask by this and the next, and not by the size of a table: so their
+// limits are those of this file. Each is one comparison, shorter than a function over any limit.
 pub fn full_of_investees(held: usize) -> bool
     ensures { result ≡ nat_le most_investees held }
 {

@@ -10,14 +10,17 @@ use rules::figures::Figures;
 use rules::investees::InvesteeFields;
 use rules::national::National;
 use sources::estimate::{Estimate, EstimateFigures};
-use sources::reported::Reported;
+use sources::reported::{Mark, Reported};
 use std::io;
 
 // Emissions are reported, and a reduction is estimated against a base period.
 type Reads = Either<Reported, Estimate<Reported>>;
 
 fn reported(kilograms: u64) -> Reads {
-    Left(Reported { kilograms, mark: 1 })
+    Left(Reported {
+        kilograms,
+        mark: u64::from(Mark::Verified),
+    })
 }
 
 fn saved(base_kilograms: u64, kilograms: u64) -> Reads {
@@ -26,7 +29,10 @@ fn saved(base_kilograms: u64, kilograms: u64) -> Reads {
         base_output: 100,
         base_kilograms,
     };
-    let below = Reported { kilograms, mark: 1 };
+    let below = Reported {
+        kilograms,
+        mark: u64::from(Mark::Verified),
+    };
     Right(Estimate { figures, below })
 }
 
@@ -99,7 +105,7 @@ struct Year<'y> {
 }
 
 impl Year<'_> {
-    // Does the calls, at most eight, as one run, and prints each with its answer.
+    // Does the calls as one run, and prints each with its answer.
     fn show(&mut self, steps: Vec<Step>) -> io::Result<()> {
         // A run takes its calls in one slice, so the labels stand in a list beside them.
         let mut labels = Vec::with_capacity(self.rt.alloc(), steps.len())?;
@@ -108,7 +114,7 @@ impl Year<'_> {
             labels.push(step.label)?;
             calls.push(step.call)?;
         }
-        let mut answers = [Answer::Done; 8];
+        let mut answers = vec![in self.rt.alloc(); Answer::Done; calls.len()]?;
         self.book.run(&calls, &mut answers);
         for (label, answer) in labels.iter().zip(answers.iter()) {
             let text = answer_text(self.rt.alloc(), *answer)?;
