@@ -15,7 +15,7 @@ use Rattle.plain.specs.Rounding.{rounded}
 use Rattle.plain.proofs.Integers.{linear}
 use Rattle.positions.specs.Lending.{lent_on, turn_of, turn_from, turns_of}
 use Rattle.positions.specs.declared.lending.Turn.{Turn}
-use Rattle.positions.proofs.BranchOrder.{branches-long, branch-at}
+use Rattle.plain.proofs.BranchOrder.{branches-long, branch-at}
 use Rattle.book.specs.Shares.{added, no_kilograms}
 use Rattle.book.specs.Standings.{standing_of, both_fall}
 use Rattle.book.specs.declared.book.readings.Standing.{Standing}

@@ -1,11 +1,11 @@
 -- How long a page can be.
-use Rattle.std.proofs.Common.{◌≡◌, ℕ, zero, suc, ◌+◌, ◌*◌, ◌^◌, ◌<◌, ◌≤◌, Bool, true, false, cond, List, [], ◌∷◌, ◌++◌, map, reverse, length, ℤ, pos, negsuc, nat_abs, Some, None, decimal, Option, refl, ap, ◌∙◌, arith}
+use Rattle.std.proofs.Common.{◌≡◌, ℕ, suc, ◌+◌, ◌*◌, ◌^◌, ◌<◌, ◌≤◌, Bool, true, false, cond, List, [], ◌∷◌, ◌++◌, map, reverse, length, ℤ, pos, negsuc, nat_abs, Some, None, decimal, Option, ◌∙◌, arith}
 use lib.Signed.{mag}
 use Rattle.std.specs.Fmt.{signed_decimal}
 use Rattle.std.specs.List.{flat_map, AllByRecursion}
 use Rattle.std.proofs.lemmas.Fmt.{length-decimal-le, length_signed_le}
 use Rattle.std.proofs.ByRecursion.{All-weaker, All-map}
-use Rattle.std.proofs.lemmas.List.{length-append, length-map, length-reverse}
+use Rattle.std.proofs.lemmas.List.{length-append, length-map}
 use Rattle.rules.specs.Tables.{Tables, Lawful}
 use Rattle.sources.specs.Limits.{most_kilograms}
 use Rattle.plain.specs.declared.answers.InvesteeAccount.{InvesteeAccount}
@@ -17,7 +17,7 @@ use Rattle.plain.specs.Limits.{most_investees}
 use Rattle.plain.specs.Parts.{part, total, sheet, book_total}
 use Rattle.plain.specs.PlainBook.{PlainInvestee, PlainBook}
 use Rattle.plain.specs.Readings.{account_of, accounts_of, has_position, sheet_of, sheet_if_any, sheets_of, book_total_of}
-use Rattle.plain.specs.Sums.{down_from}
+use Rattle.plain.proofs.BranchOrder.{branches-long}
 use Rattle.plain.proofs.EveryRun.{once_per_branch}
 use Rattle.plain.proofs.Parts.{total-within}
 use Rattle.plain.proofs.Sizes.{part-within, sum-within}
@@ -109,13 +109,8 @@ every : {X : Type 0} (P : X → Type 0) → ((x : X) → P x) → (xs : List X) 
 every P h [] = tt
 every P h (x ∷ xs) = (h x, every P h xs)
 
-length-down : (n : ℕ) → length (down_from n) ≡ n
-unfolding down_from
-length-down zero = refl
-length-down (suc n) = ap suc (length-down n)
-
 pub length-sheets : (t : Tables) (p : PlainBook) → length (sheets_of t p) ≡ branch_count
-length-sheets t p = length-map (reverse branches) (sheet_if_any t p) ∙ length-reverse branches ∙ length-down branch_count
+length-sheets t p = length-map (reverse branches) (sheet_if_any t p) ∙ branches-long
 
 module _ (t : Tables) (lawful : Lawful t) (p : PlainBook) (kept : KeptByEveryRun p) where
   few : length (apportionments t p emissions) ≤ most_investees

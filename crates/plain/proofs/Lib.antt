@@ -3,6 +3,7 @@ pub mod Integers
 pub mod Fractions
 pub mod Rounding
 pub mod Sums
+pub mod BranchOrder
 pub mod Parts
 pub mod Kilograms
 pub mod ShutOut

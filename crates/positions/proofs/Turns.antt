@@ -13,7 +13,7 @@ use Rattle.positions.specs.Lending.{lent_on, turn_from, turns_of, noted}
 use Rattle.positions.specs.Rows.{plain_position, plain_positions}
 use Rattle.positions.specs.declared.PositionRow.{PositionRow}
 use Rattle.positions.specs.declared.lending.Turn.{Turn}
-use Rattle.positions.proofs.BranchOrder.{branches-long, branch-at}
+use Rattle.plain.proofs.BranchOrder.{branches-long, branch-at}
 use Rattle.positions.proofs.Walks.{rows_on, on-view, lent_in, next_lent}
 
 abbrev or_else : Option Turn → Option Turn → Option Turn

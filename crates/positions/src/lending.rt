@@ -38,7 +38,7 @@ fn note(turns: &mut [Option<Turn>], branch: u8, turn: Turn)
 
 // Each reads the rows on one investee by the same chain: a function cannot give it, since its type has no name.
 impl Positions {
-    // The exposures to an investee, added up.
+    // The exposures to an investee, added up, without the other sums: it is asked at each post.
     pub fn exposure(&self, investee: Profile) -> u64
         ensures { result ≡ exposures (map (lent_by investee.kind) (positions_on investee.id (positions_in self.now))) }
     {

@@ -42,7 +42,7 @@ pub fn is_bond(kind: Kind) -> bool
     kind == Kind::Bond
 }
 
-// Whether the year has a month of this number.
+// Whether the year has a month of this number. Months stay numbers: callers send any, and a table answers each.
 fn in_year(month: u64) -> bool
     ensures { result ≡ in_year month }
 {

@@ -41,7 +41,7 @@ impl<'r, R: Rule> Book<'r, R> {
     pub(super) fn is_open(&self, id: u64) -> bool
         ensures { result ≡ is_open id (plain self.now) }
     {
-        self.investees.as_slice().iter().any(|row| row.has_id(id))
+        self.place(id).is_ok()
     }
 
     // The exposure to an investee.

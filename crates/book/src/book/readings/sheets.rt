@@ -28,7 +28,7 @@ impl<'b, 'r, R: Rule> Held<'b, 'r, R> {
         let standing = self.standing();
         let profile = self.row.profile;
         let turns = self.book.positions.turns(profile);
-        // By index: after a `zip` over `iter_mut` a proof knows nothing of what was written.
+        // By index: after a `zip` over `iter_mut` a proof knows nothing; its `enumerate` would go by index too.
         for (k, turn) in turns.iter().enumerate() {
             if let Some(turn) = turn {
                 sums[k] = added(sums[k], standing.shares(*turn, self.row));
@@ -38,7 +38,7 @@ impl<'b, 'r, R: Rule> Held<'b, 'r, R> {
 }
 
 impl<'r, R: Rule> Book<'r, R> {
-    // The parts of a branch, added up over all investees.
+    // The parts of a branch, added up over all investees: one branch alone, where `all_sheets` works out forty.
     fn sheet_of(&self, branch: u64) -> Kilograms
         ensures { result ≡ sheet_of (R.tables self.now.rule.now) (plain self.now) branch }
     {

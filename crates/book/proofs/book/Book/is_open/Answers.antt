@@ -1,14 +1,12 @@
-use Rattle.std.proofs.Common.{rules, tests, ap, ◌∙◌}
-use Rattle.std.specs.List.{list_any}
-use Rattle.std.proofs.lemmas.Iterator.{YieldsList-from_slice}
-use Rattle.std.proofs.lemmas.Iterator.Search.{any_from_yields_List}
-use Rattle.fixed_tables.specs.Tables.{rows_in}
+use Rattle.std.proofs.Common.{◌≡◌, is_ok, is_some, ok_or, None, Some, Option, refl, ap, ◌∙◌}
 use Rattle.plain.specs.PlainBook.{has_id}
-use Rattle.book.specs.Rows.{plain_investee}
-use Rattle.positions.proofs.Views.{any-view}
+use Rattle.positions.proofs.Places.{found_alike}
+use Rattle.book.specs.View.{plain}
 use Rattle.book.proofs.book.Book.is_open.Goals as goal
 
+either-way : {X E : Type 0} (o : Option X) (e : E) → is_ok (ok_or o e) ≡ is_some o
+either-way None e = refl
+either-way (Some x) e = refl
+
 pub returns : goal.returns
-returns g c =
-    any_from_yields_List (λ row. has_id c.args.id (plain_investee row)) _ _ _ c.any.ensures.ran (YieldsList-from_slice c.as_slice.result.now (cc)) (λ x b q k. search (rules, tests))
-    ∙ ap (list_any (λ row. has_id c.args.id (plain_investee row))) c.as_slice.ensures.rows ∙ any-view plain_investee (has_id c.args.id) (rows_in c.args.self.now.investees)
+returns g c = c.is_ok.ensures.value ∙ ap is_ok c.place.ensures ∙ either-way _ _ ∙ found_alike (has_id c.args.id) (plain c.args.self.now).investees

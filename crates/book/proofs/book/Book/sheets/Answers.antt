@@ -2,7 +2,7 @@ use Rattle.std.proofs.Common.{◌≡◌, ◌+◌, cond, map, reverse, Some, None
 use Rattle.std.proofs.lemmas.List.{length-map, get_or-map}
 use Rattle.plain.specs.Branches.{branch_count, branches}
 use Rattle.plain.specs.Readings.{has_position, sheet_if_any}
-use Rattle.positions.proofs.BranchOrder.{branches-long, branch-at}
+use Rattle.plain.proofs.BranchOrder.{branches-long, branch-at}
 use Rattle.book.specs.Shares.{no_kilograms}
 use Rattle.book.specs.View.{plain}
 use Rattle.book.proofs.Filling.{made-as}
