@@ -8,7 +8,7 @@ ghost use Rattle.rules.specs.Lawful.{pudong-lawful};
 use crate::figures::{Base, Figures};
 use crate::investees::Financing;
 use crate::kinds::Kind;
-use crate::reasons::{LEAST_DAYS, LEAST_LOAN};
+use crate::reasons::{FEW_DAYS, LEAST_DAYS, LEAST_LOAN, REPAID, SMALL_BORROWER, SMALL_LOAN};
 use crate::rule::Rule;
 use faults::Refusal;
 
@@ -37,11 +37,12 @@ impl Rule for Pudong {
         ensures value { result ≡ reason_for pudong_tables financing }
         ensures first { FirstReason (PudongApplies financing.kind financing.size financing.days financing.exposure financing.closing) result }
     {
+        // By numbers: reasons go by ranges of kinds and sizes, tried from the top.
         match (u8::from(financing.kind), u8::from(financing.size)) {
-            (1..=5, _) if financing.days < LEAST_DAYS => 1,
-            (5, _) if financing.exposure < LEAST_LOAN => 2,
-            (1..=5, 3..=5) => 3,
-            (1..=5, _) if financing.closing == 0 => 4,
+            (1..=5, _) if financing.days < LEAST_DAYS => FEW_DAYS,
+            (5, _) if financing.exposure < LEAST_LOAN => SMALL_LOAN,
+            (1..=5, 3..=5) => SMALL_BORROWER,
+            (1..=5, _) if financing.closing == 0 => REPAID,
             _ => 0,
         }
     }
