@@ -4,6 +4,7 @@
 ghost use Rattle.std.specs.Prelude.{◌≡◌, Some};
 ghost use Rattle.faults.specs.Refusals.{fault, fault_text, number_of};
 
+use std::error::Error;
 use std::fmt;
 
 // The reasons for which a call can be declined; docs/REFUSALS.md has each with its number.
@@ -44,7 +45,7 @@ pub enum Refusal {
 }
 
 impl Refusal {
-    // The number that reports print; no `From`: `Custom` holds its own, and callers read `refusal.number()`.
+    // The number that reports print. A method and no `From`: it reads as what it is.
     pub fn number(self) -> u32
         ensures { result ≡ number_of self }
     {
@@ -88,6 +89,7 @@ pub struct Fault {
     pub source: u32,
 }
 
+// `at` and `plain` beside `From`: a `From` takes no place, and without `?` a name says what is made.
 impl Fault {
     // A fault found outside sources at a place.
     pub fn at(refusal: Refusal, place: u32) -> Fault
@@ -131,6 +133,8 @@ impl fmt::Display for Fault {
         )
     }
 }
+
+impl Error for Fault {}
 
 #[cfg(test)]
 mod tests {
