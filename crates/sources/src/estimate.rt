@@ -22,8 +22,7 @@ pub struct EstimateFigures {
 }
 
 impl EstimateFigures {
-    // The number of the layer. A generic impl does not know its own constant, and a ghost constant in the trait gets no
-    // proof at a source that borrows.
+    // The number of the layer: `Source::NUMBER` says why it stands here.
     pub const NUMBER: u32 = 4;
 
     // What the base period would have emitted at the output of the report period, in kilograms toward zero; nothing

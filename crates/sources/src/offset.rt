@@ -20,8 +20,7 @@ pub struct OffsetFigures {
 }
 
 impl OffsetFigures {
-    // The number of the layer. A generic impl does not know its own constant, and a ghost constant in the trait gets no
-    // proof at a source that borrows.
+    // The number of the layer: `Source::NUMBER` says why it stands here.
     pub const NUMBER: u32 = 6;
 
     // The kilograms offset: 570.3 for a megawatt hour, toward zero, and 1,000 for a tonne; nothing where a figure is

@@ -13,8 +13,7 @@ pub struct OverseasFigures {
 }
 
 impl OverseasFigures {
-    // The number of the layer. A generic impl does not know its own constant, and a ghost constant in the trait gets no
-    // proof at a source that borrows.
+    // The number of the layer: `Source::NUMBER` says why it stands here.
     pub const NUMBER: u32 = 5;
 }
 

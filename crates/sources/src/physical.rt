@@ -23,7 +23,8 @@ fn tenths_of_gram(terms: &[Activity]) -> Result<u64, Fault>
     requires { length terms.now ≤ most_terms }
     ensures { result ≡ added terms.now }
 {
-    // A loop and no `try_fold`: tried, and the proof that the sum fits does not close.
+    // A loop with the index: the first term out of range is named by its place.
+    // No `try_fold`: tried, and the proof that the sum fits does not close.
     let mut sum = 0;
     for (i, term) in terms.iter().enumerate() {
         let tenths = term.tenths_of_gram().ok_or(Fault {

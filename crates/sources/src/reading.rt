@@ -29,6 +29,7 @@ impl Reading {
     }
 
     // The reading less a part of it, unless the part is above the reading.
+    // Refusal and number, and no Fault: one is made only where the part is above.
     pub fn without(self, part: u64, refusal: Refusal, source: u32) -> Result<Reading, Fault>
         ensures value { result ≡ less part refusal source self }
         ensures left { IfOk result (LeftOf self part) }

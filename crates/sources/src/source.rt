@@ -9,8 +9,11 @@ use faults::{Fault, Refusal};
 
 // Where an investee's emissions come from: a report, an energy bill, a layer over another source. Reading a source
 // changes nothing, and gives its meaning each time.
+// Layers are three types and no one `Layer<F, S>`: they check, read and refuse each in its own way.
 pub trait Source {
     // The number that is carried in each fault that the source finds by itself.
+    // In the proof of a generic impl `Self::NUMBER` is an unknown number, so a layer's figures hold it; a
+    // ghost constant here gets no proof at a source that borrows.
     const NUMBER: u32;
 
     // One reading or one fault.
@@ -32,6 +35,7 @@ pub fn read_within_limits<S: Source>(source: &S) -> Result<Reading, Fault>
 }
 
 // The reading of the source below a layer, less a part of it, unless the part is above the reading.
+// Refusal and number, and no Fault: one is made only where the part is above.
 pub(crate) fn read_without<S: Source>(
     below: &S,
     part: u64,
