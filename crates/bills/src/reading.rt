@@ -37,7 +37,7 @@ fn read_lines(heap: Global, text: &[u8]) -> Result<Result<Vec<Item>, Malformed>,
 {
     let mut items = Vec::new(heap);
     let mut lines = Pieces::new(text, b'\n');
-    // A `while let` and no `for`: its body asks `lines.rest` whether a line feed ended the line.
+    // A `while let` and no `for`: its body asks `lines.rest`, which tells an unended line from the end.
     while let Some(line) = lines.next() {
         if lines.rest.is_none() {
             if line.is_empty() {

@@ -39,7 +39,7 @@ impl Graded for Item {
     }
 }
 
-// A function of its own: no item comes to just the limit, so in `filter` the proof holds for `<` as well.
+// A function of its own, so that the limit itself is proved: no quantity comes to just 10^12.
 fn within_limit(kilograms: u64) -> bool
     ensures { result ≡ nat_le kilograms 1000000000000 }
 {

@@ -18,6 +18,7 @@ pub struct Kilograms {
 #[derive(Clone, Copy, Debug, PartialEq, Eq)]
 pub struct InvesteeTotal {
     pub kilograms: Kilograms,
+    // As pages print it; 0 where it is counted.
     pub reason: u8,
     pub grade: u8,
 }
