@@ -8,7 +8,7 @@ use operations::work::work_out;
 use pages::page::ROOM;
 use sources::estimate::{Estimate, EstimateFigures};
 use sources::physical::Physical;
-use sources::reported::Reported;
+use sources::reported::{Mark, Reported};
 use sources::source::Source;
 
 const FILE: &str = "1 2 1\n7 5 0 2 200 0 10000 0 0 0 0 0 0 R 1001 1\n1 7 1\n2 7 1\n60000\n60000\n";
@@ -38,7 +38,7 @@ fn estimate(rt: &HostRuntime) -> Result<(), Failure> {
     };
     let below = Reported {
         kilograms: 1_050,
-        mark: 1,
+        mark: u64::from(Mark::Verified),
     };
     let kilograms = Estimate { figures, below }.read()?.kilograms;
     println!(rt; "estimate of 100 over 120 of 1000 kg, less 1050: {kilograms} kg")?;

@@ -6,7 +6,7 @@ use rules::investees::InvesteeFields;
 use rules::national::National;
 use rules::pudong::Pudong;
 use sources::estimate::{Estimate, EstimateFigures};
-use sources::reported::Reported;
+use sources::reported::{Mark, Reported};
 use std::alloc::Global;
 
 const ID: u64 = 7;
@@ -14,10 +14,9 @@ const ID: u64 = 7;
 // An investee of medium size, 200 days in the year.
 fn fields(kind: u64, revenue: u64, total_assets: u64) -> InvesteeFields {
     let figures = Figures {
-        investment: 0,
         revenue,
         total_assets,
-        initial_value: 0,
+        ..Figures::default()
     };
     InvesteeFields {
         id: ID,
@@ -30,7 +29,10 @@ fn fields(kind: u64, revenue: u64, total_assets: u64) -> InvesteeFields {
 }
 
 fn reported(kilograms: u64) -> Reported {
-    Reported { kilograms, mark: 1 }
+    Reported {
+        kilograms,
+        mark: u64::from(Mark::Verified),
+    }
 }
 
 // A general loan with a revenue of 10,000 wan, to which branches 1, 2 and so on have lent these amounts in January.

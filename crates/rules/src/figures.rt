@@ -8,7 +8,7 @@ use faults::Refusal;
 pub const MOST_FIGURE: u64 = 500_000_000;
 
 // Whole wan. A figure of 0 is not given: numbers and no Options, since callers and files send 0 for it.
-#[derive(Clone, Copy, Debug, PartialEq, Eq)]
+#[derive(Clone, Copy, Debug, Default, PartialEq, Eq)]
 pub struct Figures {
     pub investment: u64,
     pub revenue: u64,
