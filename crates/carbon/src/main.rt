@@ -8,8 +8,9 @@ use std::io;
 use std::io::{Read, Write};
 
 fn main(rt: HostRuntime) -> io::Result<()> {
+    // Input is read by the same calls as in own/src/main.rt: a crate for them would be longer than both.
     let mut bytes = Vec::new(rt.alloc());
-    // The same chain of calls as in own/main.rt: a crate for it would be longer than both.
+    // One byte more than a file may have, so that a longer one is seen.
     rt.stdin()
         .take(MOST_BYTES as u64 + 1)
         .read_to_end(&mut bytes)?;

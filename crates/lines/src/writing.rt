@@ -6,7 +6,7 @@ ghost use Rattle.lines.specs.Writing.{Wrote};
 use itoa::{Buffer, Integer};
 
 // A buffer, and the place where the next text goes, over what stands there. A `put` that does not fit answers None and
-// changes nothing.
+// changes nothing. An Option: that a text does not fit is all there is to say, and `?` passes it on.
 // No io::Write: a text that does not fit is not written in part, and contracts tell the place after each `put`.
 #[derive(Drop)]
 pub struct Writer<'a> {
@@ -26,7 +26,6 @@ fn line_length(numbers: &[u64]) -> u128
 }
 
 impl Writer<'_> {
-    // A text.
     pub fn put(&mut self, text: &[u8]) -> Option<()>
         ensures wrote { Wrote self.old text.now self.new result }
         ensures unchanged { IfNone result (self.new ≡ self.old) }
@@ -42,7 +41,6 @@ impl Writer<'_> {
         Some(())
     }
 
-    // One byte.
     pub fn put_byte(&mut self, byte: u8) -> Option<()>
         ensures wrote { Wrote self.old (byte ∷ []) self.new result }
         ensures unchanged { IfNone result (self.new ≡ self.old) }

@@ -19,6 +19,7 @@ pub fn next_line<'a>(lines: &mut Pieces<'a>) -> Option<&'a [u8]>
 }
 
 // So many lines of a file.
+// Counted down by hand: `Take` over lines would go on after the first that does not read.
 #[derive(Clone, Copy)]
 pub struct Section<'a> {
     pub left: usize,

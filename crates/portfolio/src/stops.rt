@@ -3,6 +3,7 @@ ghost use Rattle.std.specs.Prelude.{◌≡◌};
 ghost use Rattle.portfolio_lines.specs.Misreads.{place_of};
 ghost use Rattle.portfolio.specs.Layout.{missing, not_laid_out, beyond_limits};
 
+use crate::head::HEAD_LINE;
 use entries::stop::Stop;
 use faults::{Fault, Refusal};
 use portfolio_lines::misread::Misread;
@@ -25,5 +26,5 @@ pub fn wrong_field(line: usize, misread: Misread) -> Stop
 pub fn file_beyond() -> Stop
     ensures { result ≡ beyond_limits }
 {
-    Stop::at(1, Fault::plain(Refusal::FileBeyondLimits))
+    Stop::at(HEAD_LINE, Fault::plain(Refusal::FileBeyondLimits))
 }

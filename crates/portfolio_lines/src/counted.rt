@@ -5,7 +5,7 @@ ghost use Rattle.lines.specs.Fields.{pieces_left};
 use lines::pieces::Pieces;
 
 // The fields that are still to read, and the place of the next, counted from 1. A line has at most 512 fields.
-// Counted by hand, and no `enumerate`: `lines` takes several numbers at once, and from the pieces themselves.
+// Counted by hand: `lines::fields::numbers` reads several numbers at once from the pieces.
 #[derive(Clone, Copy)]
 pub struct Fields<'a> {
     pub pieces: Pieces<'a>,
