@@ -1,5 +1,6 @@
 -- Lines passed over one after another.
 use Rattle.std.proofs.Common.{◌≡◌, ℕ, zero, suc, ◌+◌, ◌-◌, ◌<◌, true, List, [], ◌∷◌, length, is_some, Some, None, Ok, Err, Option, Result, sym, refl, ap, ◌∙◌, arith, Bor}
+use Rattle.std.specs.Option.{ok_or}
 use Rattle.std.specs.Prelude.{MatchOption}
 use Rattle.entries.specs.Entries.{PlainEntry}
 use Rattle.entries.specs.declared.investee.InvesteeEntry.{InvesteeEntry}
@@ -12,7 +13,7 @@ use Rattle.portfolio_lines.specs.Misreads.{place_of}
 use Rattle.portfolio_lines.specs.declared.misread.Misread.{Misread}
 use Rattle.portfolio_lines.specs.declared.posts.Key.{Key}
 use Rattle.portfolio.specs.Cursors.{with_line, lines_in, unless_wrong, all_in}
-use Rattle.portfolio.specs.Layout.{missing, not_laid_out, next_line, on_line, in_front, section_of, ended, postings, body_of}
+use Rattle.portfolio.specs.Layout.{missing, not_laid_out, next_line, on_line, in_front, section_of, ended, postings, body_of, gone}
 use Rattle.portfolio.specs.Rows.{passes, after, passed}
 use Rattle.portfolio.specs.declared.head.Head.{Head}
 
@@ -36,8 +37,12 @@ module _ (row : List ℕ → Result (Unit {0}) Misread) where
   first-line zero l ps some = absurd (omega arith)
   first-line (suc n) l ps some = let less : n ≡ suc n - 1 = omega arith in ap (λ m. after (on_line l (next_line ps) (λ line qs. in_front l (row line) (section_of row m (suc l) qs)))) less
 
-  pub passed-missing : (n l : ℕ) (ps : List (List ℕ)) → 0 < n → next_line ps ≡ None → passed row n l ps ≡ Err (missing l)
+  passed-missing : (n l : ℕ) (ps : List (List ℕ)) → 0 < n → next_line ps ≡ None → passed row n l ps ≡ Err (missing l)
   passed-missing n l ps some none = first-line n l ps some ∙ ap (λ o. after (on_line l o (λ line qs. in_front l (row line) (section_of row (n - 1) (suc l) qs)))) none
+
+  pub passed-none : (n l : ℕ) (ps : List (List ℕ)) → 0 < n → (r : Option (Bor (List ℕ))) (qs : List (List ℕ)) (m s : Stop) → next_line ps ≡ gone r qs → m ≡ missing l → Err s ≡ ok_or r m → passed row n l ps ≡ Err s
+  passed-none n l ps some None qs m s cut is e = let same : s ≡ m = cc in passed-missing n l ps some cut ∙ ap Err (sym is) ∙ ap Err (sym same)
+  passed-none n l ps some (Some x) qs m s cut is e = let z : ◌≡◌ {A = ℕ} 0 1 = cc in absurd (omega arith)
 
   at-line : (n l : ℕ) (ps : List (List ℕ)) → 0 < n → (x : List ℕ) (qs : List (List ℕ)) (r : Result (Unit {0}) Misread) → next_line ps ≡ Some (x, qs) → r ≡ row x → passed row n l ps ≡ after (in_front l r (section_of row (n - 1) (suc l) qs))
   at-line n l ps some x qs r cut reads =

@@ -49,9 +49,7 @@ pub fn read<'a>(bytes: &'a [u8]) -> Result<Portfolio<'a>, Stop>
         return Err(file_beyond());
     }
     let mut lines = Pieces::new(bytes, b'\n');
-    let Some(line) = next_line(&mut lines) else {
-        return Err(line_missing(HEAD_LINE));
-    };
+    let line = next_line(&mut lines).ok_or(line_missing(HEAD_LINE))?;
     let head = read_head(line)?;
     read_body(lines, head)
 }

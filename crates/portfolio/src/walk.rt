@@ -37,9 +37,7 @@ impl<'a> Walk<'a> {
         };
         let end = self.number + count;
         for number in self.number..end {
-            let Some(line) = next_line(&mut self.lines) else {
-                return Err(line_missing(number));
-            };
+            let line = next_line(&mut self.lines).ok_or(line_missing(number))?;
             // No map_err with `?`: a proof knows nothing of what a closure over this reader's answer gives.
             if let Err(misread) = read(line) {
                 return Err(wrong_field(number, misread));
