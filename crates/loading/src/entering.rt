@@ -6,7 +6,7 @@ ghost use Rattle.plain.specs.Refused.{declined};
 ghost use Rattle.plain.specs.Runs.{after};
 ghost use Rattle.plain.specs.Steps.{Step};
 ghost use Rattle.book.specs.View.{plain};
-ghost use Rattle.portfolio.specs.Cursors.{plain_portfolio};
+ghost use Rattle.portfolio.specs.Seen.{plain_portfolio};
 ghost use Rattle.loading.specs.Entering.{GivesCalls};
 ghost use Rattle.loading.specs.Trying.{tried, entries_of, first_entry_line, outcome};
 
@@ -80,7 +80,6 @@ where
 
 // Opens the investees of a portfolio, then makes its posts, to the last entry or to the first that is declined.
 pub(crate) fn enter<R: Rule>(book: &mut Book<'_, R>, portfolio: Portfolio<'_>) -> Result<(), Stop>
-    requires { first_entry_line + (length (plain_portfolio portfolio).investees + length (plain_portfolio portfolio).posts) < 2 ^ 32 }
     ensures tried { outcome (plain book.new) (result_err result) ≡ tried (R.tables book.old.rule.now) first_entry_line (plain book.old) (entries_of (plain_portfolio portfolio.entry)) }
     ensures rule { book.new.rule ≡ book.old.rule }
 {

@@ -1,8 +1,7 @@
 // Loading a file.
-ghost use Rattle.std.specs.Prelude.{◌≡◌, ◌+◌, ◌^◌, ◌<◌, length, IfOk};
-ghost use Rattle.portfolio.specs.Cursors.{plain_portfolio};
+ghost use Rattle.std.specs.Prelude.{◌≡◌, IfOk};
+ghost use Rattle.portfolio.specs.Seen.{plain_portfolio};
 ghost use Rattle.loading.specs.Loading.{entered, loading_of, plain_loaded, seen_loaded, LoadsPortfolios};
-ghost use Rattle.loading.specs.Trying.{first_entry_line};
 
 use crate::entering::enter;
 use crate::loaded::Loaded;
@@ -14,7 +13,6 @@ use std::alloc::{AllocError, Global};
 
 // A new book under the portfolio's guide, with its entries.
 fn load_portfolio(heap: Global, portfolio: Portfolio<'_>) -> Result<Loaded, AllocError>
-    requires { first_entry_line + (length (plain_portfolio portfolio).investees + length (plain_portfolio portfolio).posts) < 2 ^ 32 }
     ensures { IfOk result (λ l. plain_loaded l ≡ entered (plain_portfolio portfolio.entry)) }
 {
     let mut book = Book::new(heap, portfolio.guide().lent())?;

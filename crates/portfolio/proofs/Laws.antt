@@ -19,9 +19,8 @@ use Rattle.portfolio_lines.specs.declared.posts.Key.{Key}
 use Rattle.portfolio_lines.proofs.Investees.{investee-free}
 use Rattle.portfolio_lines.proofs.Spelled.{all_append}
 use Rattle.portfolio_lines.proofs.Texts.{row-free}
-use Rattle.portfolio.specs.Layout.{beyond_limits, next_line, on_line, section_of, ended, head_of, postings, body_of, layout_of}
+use Rattle.portfolio.specs.Layout.{PlainHead, beyond_limits, next_line, on_line, section_of, ended, head_of, postings, body_of, layout_of}
 use Rattle.portfolio.specs.Text.{head_line, key_line, balance_line, lines_of, fed, text, InvesteeDigits, PostDigits, IsTextOf, AcceptsTexts}
-use Rattle.portfolio.specs.declared.head.Head.{Head}
 use Rattle.portfolio.proofs.Sections.{next-is, Section, section-read, section-gives, EntryFact, KeyFact, BalanceFact, key_written, balance_written, entry-law, entry-back, key-law, key_back, balance-law, balance-back, HeadLine, head-line, head-reads}
 
 -- ---- lines with their line feeds
@@ -139,7 +138,7 @@ ended-ok l ([] ∷ q ∷ ps) x y h = let z : ◌≡◌ {A = ℕ} 0 1 = cc in abs
 ended-ok l ((b ∷ bs) ∷ q ∷ ps) x y h = let z : ◌≡◌ {A = ℕ} 0 1 = cc in absurd (omega arith)
 
 -- the three sections and the end, put together
-module _ (bytes : List ℕ) (fits : length bytes ≤ 65536) (h : Head) (line : List ℕ) (ps : List (List ℕ)) (cut : pieces 10 bytes ≡ line ∷ ps) (head : HeadLine h line)
+module _ (bytes : List ℕ) (fits : length bytes ≤ 65536) (h : PlainHead) (line : List ℕ) (ps : List (List ℕ)) (cut : pieces 10 bytes ≡ line ∷ ps) (head : HeadLine h line)
     (es : List PlainEntry) (keys : List Key) (balances : List ℕ) (qs rs ss : List (List ℕ))
     (a : Section investee_line EntryFact h.investees ps es qs) (b : Section key_written KeyFact h.posts qs keys rs) (c : Section balance_written BalanceFact h.posts rs balances ss) (last : ss ≡ [] ∷ []) where
   abbrev f : PlainPortfolio
@@ -222,7 +221,7 @@ then-gives f x is = ap (λ r. and_then r f) is
 
 pub text-gives : (bytes : List ℕ) (f : PlainPortfolio) → IsTextOf f bytes → layout_of bytes ≡ Ok f
 text-gives bytes f t =
-    let h : Head = record { investees = length f.investees; posts = length f.posts; guide = f.guide } in
+    let h : PlainHead = record { investees = length f.investees; posts = length f.posts; guide = f.guide } in
     let keys : List Key = map key_in f.posts in
     let balances : List ℕ = map balance_in f.posts in
     let end : List (List ℕ) = [] ∷ [] in

@@ -14,9 +14,8 @@ use Rattle.portfolio_lines.specs.declared.misread.Misread.{Misread}
 use Rattle.portfolio_lines.specs.declared.posts.Key.{Key}
 use Rattle.portfolio_lines.proofs.Investees.{investee-line, investee-reads}
 use Rattle.portfolio_lines.proofs.Texts.{row_line, row_reads, key-line, key_reads, balance-line, balance-reads, at_all}
-use Rattle.portfolio.specs.Layout.{beyond_limits, next_line, on_line, in_front, section_of, within_limits, head_by, head_from, head_of}
+use Rattle.portfolio.specs.Layout.{PlainHead, beyond_limits, next_line, on_line, in_front, section_of, within_limits, head_by, head_from, head_of}
 use Rattle.portfolio.specs.Text.{InvesteeDigits}
-use Rattle.portfolio.specs.declared.head.Head.{Head}
 
 pub next-is : (ps : List (List ℕ)) (r : List ℕ × List (List ℕ)) → next_line ps ≡ Some r → ps ≡ r.0 ∷ r.1
 next-is [] r h = let z : ◌≡◌ {A = ℕ} 0 1 = cc in absurd (omega arith)
@@ -120,26 +119,26 @@ guide-back : (g : Guide) → guide_numbered (guide_number g) ≡ Some g
 guide-back National = refl
 guide-back Pudong = refl
 
-abbrev pub head_numbers_of : Head → List ℕ
+abbrev pub head_numbers_of : PlainHead → List ℕ
 head_numbers_of h = h.investees ∷ h.posts ∷ guide_number h.guide ∷ []
 
-pub record HeadLine (h : Head) (line : List ℕ) : Type 0 where
+pub record HeadLine (h : PlainHead) (line : List ℕ) : Type 0 where
   pub numbers : LineOfNumbers 3 (head_numbers_of h) line
   pub investees : h.investees ≤ 200
   pub posts : h.posts ≤ 1000
 
-pub head-line : (line : List ℕ) (h : Head) → head_of line ≡ Ok h → HeadLine h line
+pub head-line : (line : List ℕ) (h : PlainHead) → head_of line ≡ Ok h → HeadLine h line
 head-line line h ok = from (number_line 3 line) refl ok
   where
-    limits : (n m : ℕ) (g : Guide) → ◌≡◌ {A = Result Head Stop} (cond (within_limits n m) (Ok (record { investees = n; posts = m; guide = g })) (Err beyond_limits)) (Ok h) → (n ≤ 200) × (m ≤ 1000) × (record { investees = n; posts = m; guide = g } ≡ h)
+    limits : (n m : ℕ) (g : Guide) → ◌≡◌ {A = Result PlainHead Stop} (cond (within_limits n m) (Ok (record { investees = n; posts = m; guide = g })) (Err beyond_limits)) (Ok h) → (n ≤ 200) × (m ≤ 1000) × (record { investees = n; posts = m; guide = g } ≡ h)
     limits n m g e =
         ⊎_elim
         (λ t.
         let (a, b) = and_parts (leb n 200) (leb m 1000) t in
-        let e₁ : ◌≡◌ {A = Result Head Stop} (Ok (record { investees = n; posts = m; guide = g })) (Ok h) = sym (cond-true (within_limits n m) _ _ t) ∙ e in
+        let e₁ : ◌≡◌ {A = Result PlainHead Stop} (Ok (record { investees = n; posts = m; guide = g })) (Ok h) = sym (cond-true (within_limits n m) _ _ t) ∙ e in
         let same : record { investees = n; posts = m; guide = g } ≡ h = cc in
         (leb-true n 200 a, leb-true m 1000 b, same))
-        (λ f. let e₁ : ◌≡◌ {A = Result Head Stop} (Err beyond_limits) (Ok h) = sym (cond-false (within_limits n m) _ _ f) ∙ e in let z : ◌≡◌ {A = ℕ} 0 1 = cc in absurd (omega arith))
+        (λ f. let e₁ : ◌≡◌ {A = Result PlainHead Stop} (Err beyond_limits) (Ok h) = sym (cond-false (within_limits n m) _ _ f) ∙ e in let z : ◌≡◌ {A = ℕ} 0 1 = cc in absurd (omega arith))
         (cases_Bool (within_limits n m))
 
     by : (ns : List ℕ) → LineOfNumbers 3 ns line → (o : Option Guide) → guide_numbered (get_or ns 2 0) ≡ o → head_by (get_or ns 0 0) (get_or ns 1 0) o ≡ Ok h → HeadLine h line
@@ -154,7 +153,7 @@ head-line line h ok = from (number_line 3 line) refl ok
     from (Err p) e ok = let z : ◌≡◌ {A = ℕ} 0 1 = cc in absurd (omega arith)
     from (Ok ns) e ok = by ns (row_line 3 line ns e) (guide_numbered (get_or ns 2 0)) refl ok
 
-pub head-reads : (line : List ℕ) (h : Head) → HeadLine h line → head_of line ≡ Ok h
+pub head-reads : (line : List ℕ) (h : PlainHead) → HeadLine h line → head_of line ≡ Ok h
 head-reads line h l =
     ap head_from (row_reads 3 line (head_numbers_of h) (omega arith) l.numbers)
     ∙ ap (head_by h.investees h.posts) (guide-back h.guide)

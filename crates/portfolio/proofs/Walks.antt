@@ -13,9 +13,8 @@ use Rattle.portfolio_lines.specs.Misreads.{place_of}
 use Rattle.portfolio_lines.specs.declared.misread.Misread.{Misread}
 use Rattle.portfolio_lines.specs.declared.posts.Key.{Key}
 use Rattle.portfolio.specs.Cursors.{with_line, lines_in, unless_wrong, all_in}
-use Rattle.portfolio.specs.Layout.{missing, not_laid_out, next_line, on_line, in_front, section_of, ended, postings, body_of, gone}
+use Rattle.portfolio.specs.Layout.{PlainHead, missing, not_laid_out, next_line, on_line, in_front, section_of, ended, postings, body_of, gone}
 use Rattle.portfolio.specs.Rows.{passes, after, passed}
-use Rattle.portfolio.specs.declared.head.Head.{Head}
 
 -- ---- one line
 
@@ -148,7 +147,7 @@ open-as x l ((b ∷ bs) ∷ q ∷ ps) s h = let same : s ≡ missing l = cc in a
 
 -- ---- the lines after the first, section by section
 
-module _ (h : Head) (ps : List (List ℕ)) where
+module _ (h : PlainHead) (ps : List (List ℕ)) where
   pub stopped-first : (s : Stop) → passed (λ line. passes (investee_of line)) h.investees 2 ps ≡ Err s → Err s ≡ body_of h ps
   stopped-first s a = sym (then-err _ s (section-by investee_of h.investees 2 ps ∙ ap (valued _) a))
 

@@ -1,18 +1,16 @@
--- What a portfolio in the bytes of a file stands for, and what one step of a cursor gives.
-use Rattle.std.specs.Prelude.{◌≡◌, ℕ, zero, suc, List, [], ◌∷◌, length, Some, None, Ok, Err, Option, Result}
+-- What is left for a cursor into the bytes of a file, and what one step of it gives.
+use Rattle.std.specs.Prelude.{◌≡◌, ℕ, zero, suc, List, [], ◌∷◌, Some, None, Ok, Err, Option, Result}
 use Rattle.std.specs.Borrow.{Bor}
 use Rattle.std.specs.Fn.{Shared, FnReturnsAt}
-use Rattle.entries.specs.Entries.{PlainEntry, PlainPortfolio, held_entry}
+use Rattle.entries.specs.Entries.{PlainEntry, held_entry}
 use Rattle.entries.specs.declared.investee.InvesteeEntry.{InvesteeEntry}
 use Rattle.entries.specs.declared.investee.PostEntry.{PostEntry}
-use Rattle.entries.specs.declared.stop.Stop.{Stop}
 use Rattle.lines.specs.Fields.{pieces_left}
 use Rattle.portfolio_lines.specs.Lines.{investee_of, key_of, balance_of}
 use Rattle.portfolio_lines.specs.declared.misread.Misread.{Misread}
 use Rattle.portfolio_lines.specs.declared.posts.Key.{Key}
 use Rattle.portfolio.specs.Layout.{next_line, postings}
 use Rattle.portfolio.specs.declared.file.Investees.{Investees}
-use Rattle.portfolio.specs.declared.file.Portfolio.{Portfolio}
 use Rattle.portfolio.specs.declared.file.Posts.{Posts}
 use Rattle.portfolio.specs.declared.section.Section.{Section}
 
@@ -49,14 +47,6 @@ balances_left s = all_in balance_of (lines_left s)
 abbrev pub posts_left : Posts → List PostEntry
 posts_left c = postings (keys_left c.keys) (balances_left c.balances)
 
-abbrev pub plain_portfolio : Portfolio → PlainPortfolio
-plain_portfolio p = record { guide = p.guide; investees = investees_left p.investees; posts = posts_left p.posts }
-
--- what reading a file gives
-abbrev pub seen : Result Portfolio Stop → Result PlainPortfolio Stop
-seen (Ok p) = Ok (plain_portfolio p)
-seen (Err s) = Err s
-
 -- ---- how many are left, as a cursor counts them
 
 abbrev pub investee_count : Investees → ℕ
@@ -64,11 +54,6 @@ investee_count c = c.lines.left
 
 abbrev pub post_count : Posts → ℕ
 post_count c = c.keys.left
-
--- the cursors of a file that was read count rightly
-abbrev pub Counted : Result Portfolio Stop → Type 0
-Counted (Ok p) = (investee_count p.investees ≡ length (investees_left p.investees)) × (post_count p.posts ≡ length (posts_left p.posts))
-Counted (Err s) = Unit {0}
 
 -- ---- steps: the first of a list as a program holds it, and those after it; nothing of an empty list
 

@@ -18,7 +18,6 @@ use Rattle.portfolio_lines.specs.Lines.{number_line, investee_of, key_of, balanc
 use Rattle.portfolio_lines.specs.Misreads.{place_of}
 use Rattle.portfolio_lines.specs.declared.misread.Misread.{Misread}
 use Rattle.portfolio_lines.specs.declared.posts.Key.{Key}
-use Rattle.portfolio.specs.declared.head.Head.{Head}
 
 -- ---- stops
 
@@ -66,19 +65,25 @@ ended l (p ∷ q ∷ ps) x = Err (missing l)
 
 -- ---- the file
 
+-- how many lines of each kind follow the first, and the guide
+pub record PlainHead : Type 0 where
+  pub investees : ℕ
+  pub posts : ℕ
+  pub guide : Guide
+
 abbrev pub within_limits : (investees posts : ℕ) → Bool
 within_limits investees posts = nat_le investees 200 && nat_le posts 1000
 
-abbrev pub head_by : (investees posts : ℕ) → Option Guide → Result Head Stop
+abbrev pub head_by : (investees posts : ℕ) → Option Guide → Result PlainHead Stop
 head_by investees posts None = Err beyond_limits
 head_by investees posts (Some g) = cond (within_limits investees posts) (Ok (record { investees = investees; posts = posts; guide = g })) (Err beyond_limits)
 
-abbrev pub head_from : Result (List ℕ) Misread → Result Head Stop
+abbrev pub head_from : Result (List ℕ) Misread → Result PlainHead Stop
 head_from (Err e) = Err (not_laid_out 1 (place_of e))
 head_from (Ok ns) = head_by (slice_index ns 0) (slice_index ns 1) (guide_numbered (slice_index ns 2))
 
 -- line 1: the number of investees, the number of posts, the guide; its layout, then its limits
-abbrev pub head_of : List ℕ → Result Head Stop
+abbrev pub head_of : List ℕ → Result PlainHead Stop
 head_of line = head_from (number_line 3 line)
 
 abbrev pub posting : Key → ℕ → PostEntry
@@ -91,7 +96,7 @@ postings (k ∷ keys) [] = []
 postings (k ∷ keys) (b ∷ balances) = posting k b ∷ postings keys balances
 
 -- the lines after the first: investees, keys, balances
-abbrev pub body_of : Head → List (List ℕ) → Result PlainPortfolio Stop
+abbrev pub body_of : PlainHead → List (List ℕ) → Result PlainPortfolio Stop
 body_of h ps =
     and_then (section_of investee_of h.investees 2 ps)
     (λ a. and_then (section_of key_of h.posts (2 + h.investees) a.1)

@@ -1,4 +1,5 @@
 pub mod Cursors
 pub mod Layout
 pub mod Rows
+pub mod Seen
 pub mod Text

@@ -1,6 +1,6 @@
 // A portfolio in the bytes of a file: its guide, and cursors to its investees and posts.
-ghost use Rattle.std.specs.Prelude.{◌≡◌};
-ghost use Rattle.portfolio.specs.Cursors.{investees_left, posts_left, plain_portfolio, investee_count, post_count};
+ghost use Rattle.std.specs.Prelude.{◌≡◌, ◌≤◌, length};
+ghost use Rattle.portfolio.specs.Cursors.{investees_left, posts_left, investee_count, post_count};
 
 use crate::section::Section;
 use entries::guide::Guide;
@@ -84,9 +84,13 @@ pub struct Portfolio<'a> {
     pub(crate) guide: Guide,
     pub(crate) investees: Investees<'a>,
     pub(crate) posts: Posts<'a>,
+    pub ghost counted: { (investee_count investees ≡ length (investees_left investees)) × (post_count posts ≡ length (posts_left posts)) },
+    pub ghost few: { (investee_count investees ≤ 200) × (post_count posts ≤ 1000) },
 }
 
 impl<'a> Portfolio<'a> {
+    ghost use Rattle.portfolio.specs.Seen.{plain_portfolio};
+
     pub fn guide(&self) -> Guide
         ensures { result ≡ (plain_portfolio self.now).guide }
     {

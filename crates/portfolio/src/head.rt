@@ -1,5 +1,5 @@
 // The first line of a file.
-ghost use Rattle.std.specs.Prelude.{◌≡◌, ◌≤◌, IfOk};
+ghost use Rattle.std.specs.Prelude.{◌≡◌, ◌≤◌};
 ghost use Rattle.portfolio.specs.Layout.{head_of, within_limits};
 
 use crate::stops::{file_beyond, wrong_field};
@@ -21,6 +21,7 @@ pub struct Head {
     pub investees: usize,
     pub posts: usize,
     pub guide: Guide,
+    ghost limits: { (investees ≤ 200) × (posts ≤ 1000) },
 }
 
 fn within_limits(investees: u64, posts: u64) -> bool
@@ -29,19 +30,22 @@ fn within_limits(investees: u64, posts: u64) -> bool
     investees <= MOST_INVESTEES && posts <= MOST_POSTS
 }
 
-// The first line: its layout, then its limits.
-pub fn read_head(line: &[u8]) -> Result<Head, Stop>
-    ensures value { result ≡ head_of line.now }
-    ensures limits { IfOk result (λ h. (h.investees ≤ 200) × (h.posts ≤ 1000)) }
-{
-    let not_laid_out = |misread| wrong_field(HEAD_LINE, misread);
-    let [investees, posts, guide] = read_row::<3>(line).map_err(not_laid_out)?;
-    match Guide::try_from(guide) {
-        Ok(guide) if within_limits(investees, posts) => Ok(Head {
-            investees: investees as usize,
-            posts: posts as usize,
-            guide,
-        }),
-        _ => Err(file_beyond()),
+impl Head {
+    ghost use Rattle.portfolio.specs.Seen.{seen_head};
+
+    // The first line: its layout, then its limits.
+    pub fn read(line: &[u8]) -> Result<Head, Stop>
+        ensures { seen_head result ≡ head_of line.now }
+    {
+        let not_laid_out = |misread| wrong_field(HEAD_LINE, misread);
+        let [investees, posts, guide] = read_row::<3>(line).map_err(not_laid_out)?;
+        match Guide::try_from(guide) {
+            Ok(guide) if within_limits(investees, posts) => Ok(Head {
+                investees: investees as usize,
+                posts: posts as usize,
+                guide,
+            }),
+            _ => Err(file_beyond()),
+        }
     }
 }

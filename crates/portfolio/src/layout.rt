@@ -1,12 +1,12 @@
 // The layout of a file, from the top.
-ghost use Rattle.std.specs.Prelude.{◌≡◌, ◌≤◌};
+ghost use Rattle.std.specs.Prelude.{◌≡◌};
 ghost use Rattle.lines.specs.Pieces.{left_in};
-ghost use Rattle.portfolio.specs.Cursors.{seen, Counted};
 ghost use Rattle.portfolio.specs.Layout.{body_of, layout_of};
+ghost use Rattle.portfolio.specs.Seen.{plain_head, seen, Counted};
 ghost use Rattle.portfolio.specs.Text.{AcceptsTexts};
 
 use crate::file::{Investees, Portfolio, Posts};
-use crate::head::{HEAD_LINE, Head, read_head};
+use crate::head::{HEAD_LINE, Head};
 use crate::section::next_line;
 use crate::stops::{file_beyond, line_missing};
 use crate::walk::Walk;
@@ -20,9 +20,7 @@ pub const MOST_BYTES: usize = 65_536;
 
 // The lines after the first.
 fn read_body<'a>(lines: Pieces<'a>, head: Head) -> Result<Portfolio<'a>, Stop>
-    requires { (head.investees ≤ 200) × (head.posts ≤ 1000) }
-    ensures value { seen result ≡ body_of head (left_in lines.entry) }
-    ensures counts { Counted result }
+    ensures { seen result ≡ body_of (plain_head head) (left_in lines.entry) }
 {
     let mut walk = Walk {
         lines,
@@ -50,6 +48,6 @@ pub fn read<'a>(bytes: &'a [u8]) -> Result<Portfolio<'a>, Stop>
     }
     let mut lines = Pieces::new(bytes, b'\n');
     let line = next_line(&mut lines).ok_or(line_missing(HEAD_LINE))?;
-    let head = read_head(line)?;
+    let head = Head::read(line)?;
     read_body(lines, head)
 }

@@ -2,7 +2,8 @@ use Rattle.std.proofs.Common.{◌≡◌, ◌+◌, map, length, None, sym, ap, �
 use Rattle.std.proofs.lemmas.List.{length-map}
 use Rattle.std.proofs.lemmas.Result.{err_from_is_err_and}
 use Rattle.book.specs.View.{plain}
-use Rattle.portfolio.specs.Cursors.{investees_left, plain_portfolio}
+use Rattle.portfolio.specs.Cursors.{investees_left}
+use Rattle.portfolio.specs.Seen.{plain_portfolio}
 use Rattle.loading.specs.Trying.{first_entry_line, opening, outcome, posting, tried}
 use Rattle.loading.proofs.Appending.{tried-on, tried-no-further}
 use Rattle.loading.proofs.Cursors.{investees-give, posts-give}
@@ -18,7 +19,7 @@ returns-in_err-line-clause-tried g c =
 
 pub enter_all-requires-2-clause-lines : goal.enter_all-requires-2-clause-lines
 enter_all-requires-2-clause-lines g c =
-    omega (arith, c.requires, c.in_ok-line.ensures.next _ investees-give, length-map (investees_left c.investees.result) opening, ap length c.investees.ensures.left, ap length c.posts.ensures.left)
+    omega (arith, c.args.portfolio.few, c.args.portfolio.counted, c.in_ok-line.ensures.next _ investees-give, length-map (investees_left c.investees.result) opening, ap length c.investees.ensures.left, ap length c.posts.ensures.left)
 
 pub returns-in_err-enter_all-clause-tried : goal.returns-in_err-enter_all-clause-tried
 returns-in_err-enter_all-clause-tried g c =

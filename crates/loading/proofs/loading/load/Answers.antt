@@ -1,13 +1,7 @@
-use Rattle.std.proofs.Common.{refl, subst, arith}
-use Rattle.portfolio.specs.Cursors.{plain_portfolio}
+use Rattle.std.proofs.Common.{subst}
 use Rattle.portfolio.specs.Text.{AcceptsTexts}
 use Rattle.loading.proofs.InOrder.{loads-portfolios}
 use Rattle.loading.proofs.loading.load.Goals as goal
-
-pub load_portfolio-requires : goal.load_portfolio-requires
-load_portfolio-requires c =
-    let is = (c.in-Ok.ensures.texts (plain_portfolio c.in-Ok.portfolio)).0 refl in
-    omega (arith, is.few_investees, is.few_posts)
 
 pub returns-in_err-load_portfolio-in-Ok-clause-portfolios : goal.returns-in_err-load_portfolio-in-Ok-clause-portfolios
 returns-in_err-load_portfolio-in-Ok-clause-portfolios c = loads-portfolios c.args.bytes.now (subst (AcceptsTexts c.args.bytes.now) c.in-Ok.ensures.value c.in-Ok.ensures.texts)
