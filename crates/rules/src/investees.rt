@@ -70,6 +70,7 @@ impl InvesteeFields {
         if !self.numbers_in_range() {
             return Err(Fault::plain(Refusal::FieldOutOfRange));
         }
+        // By `as`: the ranges were tested above.
         Ok(Profile {
             id: self.id as u32,
             kind,

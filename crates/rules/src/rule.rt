@@ -15,7 +15,7 @@ pub trait Rule {
 
     ghost lawful: { (r : Self) → Lawful (tables r) };
 
-    // What the exposures to an investee are divided by.
+    // What the exposures to an investee are divided by: asked by kind and figures alone, since nothing else decides it.
     fn base(&self, kind: Kind, figures: Figures) -> Result<Base, Refusal>
         ensures { result ≡ (tables self.now).bases kind figures };
 

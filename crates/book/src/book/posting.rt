@@ -148,7 +148,7 @@ impl<'r, R: Rule> Book<'r, R> {
         };
         let row = self.investee_for(entry)?;
         self.may_post(entry, row)?;
-        // That there is room was asked already, by `may_post`.
+        // By `as`, and without a look at the answer: the ranges and the room were asked above.
         self.positions
             .enter(branch as u8, row.profile.id, month, balance as u32);
         Ok(())
@@ -168,6 +168,7 @@ impl<'r, R: Rule> Book<'r, R> {
         };
         let row = self.investee_for(entry)?;
         self.may_amend(entry, row)?;
+        // By `as`: the ranges were asked above.
         self.positions
             .replace(branch as u8, row.profile.id, month, balance as u32);
         Ok(())
