@@ -58,7 +58,7 @@ fn moved(exposure: u64, kind: Kind, old: u64, new: u64) -> u64
     exposure + counted(kind, new) - counted(kind, old)
 }
 
-// Whether an exposure passes the amount that a base has, for each month of the year.
+// Whether an exposure passes the amount that a base has, for each month of the year. The whole and a refusal have none.
 fn passes(exposure: u64, base: Result<Base, Refusal>) -> bool
     ensures { result ≡ passes exposure (denominator_from base) }
 {
