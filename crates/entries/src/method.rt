@@ -1,9 +1,10 @@
 // How an investee's emissions are found: a report, an energy bill, or the mean of its sector.
-ghost use Rattle.std.specs.Prelude.{◌≡◌, ◌<◌, List, [], ◌∷◌, ◌++◌};
+ghost use Rattle.std.specs.Prelude.{◌≡◌, List, [], ◌∷◌, ◌++◌};
 ghost use Rattle.factors.specs.declared.Activity.{Activity as Term};
-ghost use Rattle.entries.specs.Bills.{bill_of, most_held, with_term};
+ghost use Rattle.entries.specs.Bills.{bill_of};
 ghost use Rattle.entries.specs.Methods.{held_meaning, held-within};
 
+use arrayvec::ArrayVec;
 use factors::Activity;
 use faults::Fault;
 use sources::economic::Economic;
@@ -16,11 +17,9 @@ use sources::source::Source;
 pub const MOST_HELD: usize = MOST_TERMS + 1;
 
 // The terms of an energy bill in their order, as far as they matter.
-// A table with a count and no ArrayVec: methods are copied, and an ArrayVec is not Copy and wants a Default of its items.
-#[derive(Clone, Copy)]
+#[derive(Drop)]
 pub struct Bill {
-    terms: [Activity; MOST_HELD],
-    count: usize,
+    terms: ArrayVec<Activity, MOST_HELD>,
 }
 
 impl Bill {
@@ -29,32 +28,22 @@ impl Bill {
         ensures { result ≡ bill_of [] }
     {
         Bill {
-            terms: [Activity::default(); MOST_HELD],
-            count: 0,
+            terms: ArrayVec::new(),
         }
-    }
-
-    // Writes a term at the first place that is empty.
-    fn put(&mut self, term: Activity)
-        requires { self.old.count < most_held }
-        ensures { self.new ≡ with_term self.old term }
-    {
-        self.terms[self.count] = term;
-        self.count += 1;
     }
 
     // Adds a term at the end.
     pub fn add(&mut self, term: Activity)
         ensures { (terms : List Term) → self.old ≡ bill_of terms → self.new ≡ bill_of (terms ++ term ∷ []) }
     {
-        if self.count < MOST_HELD {
-            self.put(term);
+        if !self.terms.is_full() {
+            self.terms.push(term);
         }
     }
 }
 
 // One case for each source that stands on no other.
-#[derive(Clone, Copy)]
+#[derive(Drop)]
 pub enum Method {
     Report(Reported),
     Bill(Bill),
@@ -73,11 +62,8 @@ impl Source for Method {
         match self {
             Method::Report(report) => report.read(),
             Method::Bill(bill) => {
-                let count = bill.count.min(MOST_HELD);
-                Physical {
-                    terms: &bill.terms[0..count],
-                }
-                .read()
+                let terms = bill.terms.as_slice();
+                Physical { terms }.read()
             }
             Method::Mean(mean) => mean.read(),
         }

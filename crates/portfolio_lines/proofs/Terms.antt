@@ -3,6 +3,7 @@ use Rattle.std.proofs.Common.{◌≡◌, ℕ, suc, ◌+◌, ◌-◌, ◌<◌, Li
 use Rattle.factors.specs.declared.Activity.{Activity}
 use Rattle.entries.specs.Bills.{bill_of}
 use Rattle.entries.specs.declared.method.Bill.{Bill}
+use Rattle.portfolio_lines.specs.declared.misread.Misread.{Misread}
 use Rattle.portfolio_lines.specs.Counted.{FieldsLeft, Reading, and_then, numbers_in}
 use Rattle.portfolio_lines.specs.Methods.{term_of, terms_in, in_front}
 
@@ -31,3 +32,8 @@ sofar-more n i was held grown left next ns lt (terms, is, so) read adds = (
   adds terms is,
   so ∙ ap (after terms) (step n i left lt ∙ ap (λ r. and_then r (λ r. in_front (term_of r.0) (terms_in (n - (i + 1)) r.1))) read) ∙ after_front terms (term_of ns) (terms_in (n - (i + 1)) next),
 )
+
+-- a pair that reads wrong is what all the terms read as
+pub sofar-wrong : (n i : ℕ) (was : FieldsLeft) (held : Bill) (left : FieldsLeft) (e : Misread) → i < n → Sofar n i was held left → numbers_in 2 left ≡ Err e → terms_in n was ≡ Err e
+sofar-wrong n i was held left e lt (terms, is, so) wrong =
+    so ∙ ap (after terms) (step n i left lt ∙ ap (λ r. and_then r (λ r. in_front (term_of r.0) (terms_in (n - (i + 1)) r.1))) wrong)
