@@ -3,6 +3,7 @@ use Rattle.std.specs.Prelude.{ℕ, zero, suc, cond, List, [], ◌∷◌, length,
 use Rattle.std.specs.Borrow.{Bor}
 use Rattle.lines.specs.declared.fields.LineError.{LineError}
 use Rattle.lines.specs.declared.fields.LineError.TheVariants.{TooLong, Field, Surplus}
+use Rattle.lines.specs.declared.fields.WrongField.{WrongField}
 use Rattle.lines.specs.Numerals.{number_of}
 
 -- a byte in front of the first piece
@@ -42,9 +43,9 @@ abbrev pub fields_of : ℕ → List (List ℕ) → Result (List ℕ × List (Lis
 fields_of k fields = at_field (numbers_of k 0 fields)
 
 -- what a reader of some numbers answers, with the fields that it leaves
-abbrev pub leaving_fields : Result (List ℕ) LineError → List (List ℕ) → Result (List ℕ × List (List ℕ)) LineError
+abbrev pub leaving_fields : Result (List ℕ) WrongField → List (List ℕ) → Result (List ℕ × List (List ℕ)) ℕ
 leaving_fields (Ok ns) fields = Ok (ns, fields)
-leaving_fields (Err e) fields = Err e
+leaving_fields (Err e) fields = Err e.0
 
 -- no field may follow
 abbrev pub ended : Result (List ℕ × List (List ℕ)) LineError → Result (List ℕ) LineError

@@ -1,6 +1,6 @@
 // Fields read one after another.
 ghost use Rattle.std.specs.Prelude.{◌≡◌, ℕ, suc};
-ghost use Rattle.lines.specs.Fields.{numbers_of, first, fields_of, leaving_fields};
+ghost use Rattle.lines.specs.Fields.{numbers_of, first, leaving_fields};
 ghost use Rattle.lines.specs.Pieces.{left_in};
 
 use crate::numerals::number;
@@ -16,6 +16,20 @@ pub enum LineError {
     Surplus,
 }
 
+// The first field, from 0, that is wrong or missing.
+#[derive(Clone, Copy, Debug, PartialEq, Eq)]
+pub struct WrongField(pub usize);
+
+impl From<WrongField> for LineError {
+    ghost use Rattle.lines.specs.declared.fields.LineError.TheVariants.{Field};
+
+    ghost from_gives = { λ wrong error. error ≡ Field wrong.0 };
+
+    fn from(wrong: WrongField) -> LineError {
+        LineError::Field(wrong.0)
+    }
+}
+
 // The next field as a number; nothing if it is wrong or missing.
 fn next_number(fields: &mut Pieces<'_>) -> Option<u64>
     ensures { (k i : ℕ) → numbers_of (suc k) i (left_in fields.old) ≡ first i result (numbers_of k (suc i) (left_in fields.new)) }
@@ -24,12 +38,12 @@ fn next_number(fields: &mut Pieces<'_>) -> Option<u64>
 }
 
 // The next K fields as numbers, or the first of them that is wrong or missing.
-pub fn numbers<const K: usize>(fields: &mut Pieces<'_>) -> Result<[u64; K], LineError>
-    ensures { fields_of K (left_in fields.old) ≡ leaving_fields result (left_in fields.new) }
+pub fn numbers<const K: usize>(fields: &mut Pieces<'_>) -> Result<[u64; K], WrongField>
+    ensures { numbers_of K 0 (left_in fields.old) ≡ leaving_fields result (left_in fields.new) }
 {
     let mut out = [0; K];
     for (i, n) in out.iter_mut().enumerate() {
-        *n = next_number(fields).ok_or(LineError::Field(i))?;
+        *n = next_number(fields).ok_or(WrongField(i))?;
     }
     Ok(out)
 }

@@ -8,7 +8,7 @@ use Rattle.lines.proofs.Printed.{some-piece}
 use Rattle.portfolio_lines.specs.declared.misread.Misread.TheVariants as misread
 use Rattle.std.proofs.lemmas.Bool.{cases_lt, lt-ltb, le-ltb, cond-true, cond-false}
 use Rattle.portfolio_lines.specs.declared.misread.Misread.{Misread}
-use Rattle.portfolio_lines.specs.Counted.{and_then, none_at, none_left, counted, index_of}
+use Rattle.portfolio_lines.specs.Counted.{and_then, none_at, none_left, counted}
 use Rattle.portfolio_lines.specs.Lines.{number_line}
 use Rattle.portfolio_lines.specs.Rows.{misread_of, last_place}
 
@@ -58,14 +58,6 @@ shift (suc k) p i (f ∷ fs) =
 from_start : (k p : ℕ) (fs : List (List ℕ)) → numbers_of k p fs ≡ shifted p (numbers_of k 0 fs)
 from_start k p fs = ap (λ q. numbers_of k q fs) (sym (add-zero p)) ∙ shift k p 0 fs
 
-at_ok : (r : Result (List ℕ × List (List ℕ)) ℕ) (x : List ℕ × List (List ℕ)) → at_field r ≡ Ok x → r ≡ Ok x
-at_ok (Ok y) x h = let same : y ≡ x = cc in ap Ok same
-at_ok (Err i) x h = let z : ◌≡◌ {A = ℕ} 0 1 = cc in absurd (omega arith)
-
-at_err : (r : Result (List ℕ × List (List ℕ)) ℕ) (e : LineError) → at_field r ≡ Err e → r ≡ Err (index_of e)
-at_err (Ok y) e h = let z : ◌≡◌ {A = ℕ} 0 1 = cc in absurd (omega arith)
-at_err (Err i) e h = let same : Field i ≡ e = cc in ap (λ e. Err (index_of e)) same
-
 -- ---- numbers read
 
 rest-count : (k i : ℕ) (fs : List (List ℕ)) (x : List ℕ × List (List ℕ)) → numbers_of k i fs ≡ Ok x → length x.1 + k ≡ length fs
@@ -89,17 +81,17 @@ wrong-within (suc k) i (f ∷ fs) j h = by (wrong-within k (suc i) fs) (number_o
     by deep (Some n) (Err q) e h = let same : q ≡ j = cc in omega (arith, deep q e)
 
 -- what `numbers` of the crate lines answers, as a count of fields and as a reading
-pub numbers-count : (k : ℕ) (fs : List (List ℕ)) (x : List ℕ × List (List ℕ)) → at_field (numbers_of k 0 fs) ≡ Ok x → length x.1 + k ≡ length fs
-numbers-count k fs x h = rest-count k 0 fs x (at_ok (numbers_of k 0 fs) x h)
+pub numbers-count : (k : ℕ) (fs : List (List ℕ)) (x : List ℕ × List (List ℕ)) → numbers_of k 0 fs ≡ Ok x → length x.1 + k ≡ length fs
+numbers-count k fs x h = rest-count k 0 fs x h
 
-pub numbers-wrong : (k : ℕ) (fs : List (List ℕ)) (e : LineError) → at_field (numbers_of k 0 fs) ≡ Err e → index_of e ≤ length fs
-numbers-wrong k fs e h = omega (arith, wrong-within k 0 fs (index_of e) (at_err (numbers_of k 0 fs) e h))
+pub numbers-wrong : (k : ℕ) (fs : List (List ℕ)) (i : ℕ) → numbers_of k 0 fs ≡ Err i → i ≤ length fs
+numbers-wrong k fs i h = omega (arith, wrong-within k 0 fs i h)
 
-pub numbers-read : (k p : ℕ) (fs : List (List ℕ)) (x : List ℕ × List (List ℕ)) → at_field (numbers_of k 0 fs) ≡ Ok x → counted (p + k) (numbers_of k p fs) ≡ counted (p + k) (Ok x)
-numbers-read k p fs x h = ap (counted (p + k)) (from_start k p fs ∙ ap (shifted p) (at_ok (numbers_of k 0 fs) x h))
+pub numbers-read : (k p : ℕ) (fs : List (List ℕ)) (x : List ℕ × List (List ℕ)) → numbers_of k 0 fs ≡ Ok x → counted (p + k) (numbers_of k p fs) ≡ counted (p + k) (Ok x)
+numbers-read k p fs x h = ap (counted (p + k)) (from_start k p fs ∙ ap (shifted p) h)
 
-pub numbers-refused : (k p : ℕ) (fs : List (List ℕ)) (e : LineError) → at_field (numbers_of k 0 fs) ≡ Err e → counted (p + k) (numbers_of k p fs) ≡ Err (misread.Field (p + index_of e))
-numbers-refused k p fs e h = ap (counted (p + k)) (from_start k p fs ∙ ap (shifted p) (at_err (numbers_of k 0 fs) e h))
+pub numbers-refused : (k p : ℕ) (fs : List (List ℕ)) (i : ℕ) → numbers_of k 0 fs ≡ Err i → counted (p + k) (numbers_of k p fs) ≡ Err (misread.Field (p + i))
+numbers-refused k p fs i h = ap (counted (p + k)) (from_start k p fs ∙ ap (shifted p) h)
 
 -- ---- a whole line, as the crate lines reads it
 

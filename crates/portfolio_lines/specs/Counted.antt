@@ -3,8 +3,6 @@
 --   reading  what fields read as, with the fields after them; or which is the first that is wrong or missing
 use Rattle.std.specs.Prelude.{ℕ, ◌+◌, List, [], ◌∷◌, Ok, Err, Result}
 use Rattle.lines.specs.Fields.{pieces, pieces_left, numbers_of}
-use Rattle.lines.specs.declared.fields.LineError.{LineError}
-use Rattle.lines.specs.declared.fields.LineError.TheVariants.{TooLong, Field, Surplus}
 use Rattle.portfolio_lines.specs.declared.counted.Fields.{Fields}
 use Rattle.portfolio_lines.specs.declared.misread.Misread.{Misread}
 use Rattle.portfolio_lines.specs.declared.misread.Misread.TheVariants as misread
@@ -61,9 +59,3 @@ fields_left f = record { place = f.place; left = pieces_left f.pieces.separator 
 abbrev pub leaving : {X : Type 0} → Result X Misread → FieldsLeft → Reading X
 leaving (Ok x) f = Ok (x, f)
 leaving (Err e) f = Err e
-
--- the field, from 0, that an error names
-abbrev pub index_of : LineError → ℕ
-index_of (Field i) = i
-index_of TooLong = 0
-index_of Surplus = 0

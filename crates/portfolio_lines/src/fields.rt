@@ -1,20 +1,10 @@
 // Fields of a line read one after another.
 ghost use Rattle.std.specs.Prelude.{◌≡◌};
-ghost use Rattle.portfolio_lines.specs.Counted.{fields_left, numbers_in, letter_in, none_left, leaving, index_of};
+ghost use Rattle.portfolio_lines.specs.Counted.{fields_left, numbers_in, letter_in, none_left, leaving};
 
 use crate::counted::Fields;
 use crate::misread::Misread;
-use lines::fields::{LineError, numbers};
-
-// The field, from 0, that an error names; the first where it names none.
-fn index(error: LineError) -> usize
-    ensures { result ≡ index_of error }
-{
-    match error {
-        LineError::Field(i) => i,
-        LineError::TooLong | LineError::Surplus => 0,
-    }
-}
+use lines::fields::{WrongField, numbers};
 
 impl Fields<'_> {
     // The next K fields as numbers, or the first that is wrong or missing.
@@ -29,7 +19,7 @@ impl Fields<'_> {
                 self.place += K as u32;
                 Ok(ns)
             }
-            Err(error) => Err(Misread::Field(self.place + index(error) as u32)),
+            Err(WrongField(i)) => Err(Misread::Field(self.place + i as u32)),
         }
     }
 

@@ -1,5 +1,4 @@
-use Rattle.std.proofs.Common.{◌+◌, Err, sym, ap, ◌∙◌, arith}
-use Rattle.portfolio_lines.specs.declared.misread.Misread.TheVariants.{Field}
+use Rattle.std.proofs.Common.{arith}
 use Rattle.portfolio_lines.proofs.Counts.{numbers-count, numbers-wrong, numbers-read, numbers-refused}
 use Rattle.portfolio_lines.proofs.counted.Fields.numbers.Goals as goal
 
@@ -14,14 +13,13 @@ pub overflow_add-self : goal.overflow_add-self
 overflow_add-self g c = omega (arith, numbers-count g.row.K _ _ c.in-Ok.ensures, c.args.self.now.countable)
 
 pub overflow_cast-result : goal.overflow_cast-result
-overflow_cast-result g c = omega (arith, numbers-wrong g.row.K _ _ c.in-Err.ensures, c.index.ensures, c.args.self.now.countable)
+overflow_cast-result g c = omega (arith, numbers-wrong g.row.K _ _ c.in-Err.ensures, c.args.self.now.countable)
 
 pub overflow_add-result : goal.overflow_add-result
-overflow_add-result g c = omega (arith, numbers-wrong g.row.K _ _ c.in-Err.ensures, c.index.ensures, c.args.self.now.countable)
+overflow_add-result g c = omega (arith, numbers-wrong g.row.K _ _ c.in-Err.ensures, c.args.self.now.countable)
 
 pub returns-in-Ok : goal.returns-in-Ok
 returns-in-Ok g c = numbers-read g.row.K c.args.self.now.place _ _ c.in-Ok.ensures
 
 pub returns-in-Err : goal.returns-in-Err
-returns-in-Err g c =
-    numbers-refused g.row.K c.args.self.now.place _ _ c.in-Err.ensures ∙ ap (λ i. Err (Field (c.args.self.now.place + i))) (sym c.index.ensures)
+returns-in-Err g c = numbers-refused g.row.K c.args.self.now.place _ _ c.in-Err.ensures
