@@ -17,7 +17,7 @@ use sources::source::Source;
 pub const MOST_HELD: usize = MOST_TERMS + 1;
 
 // The terms of an energy bill in their order, as far as they matter.
-#[derive(Drop)]
+#[derive(Clone, Drop)]
 pub struct Bill {
     terms: ArrayVec<Activity, MOST_HELD>,
 }
@@ -43,7 +43,7 @@ impl Bill {
 }
 
 // One case for each source that stands on no other.
-#[derive(Drop)]
+#[derive(Clone, Drop)]
 pub enum Method {
     Report(Reported),
     Bill(Bill),
