@@ -26,7 +26,7 @@ pub fn answer(
     ensures portfolios { IfOk result (λ a. OnOk a (LoadsPortfolios bytes.now (loading_of bytes.now))) }
     ensures adds_up { IfOk result (λ a. OnOk a (AnswerAddsUp (loading_of bytes.now))) }
 {
-    // Asked before the file is loaded, as a stop needs the room too; `page` asks nothing of its callers and tests again.
+    // Asked before loading, as a stop needs the room too; `page` asks nothing of callers, so it tests again.
     if let Err(fault) = check_room(buffer) {
         return Ok(Err(fault));
     }
