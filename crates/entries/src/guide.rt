@@ -40,7 +40,7 @@ impl Rule for Guide {
 }
 
 // A number that is no guide's.
-// Not one type with those of rows and marks: a crate below all three would hold it for one word of text.
+// Not one type with those of rows and marks: it would stand in `factors`, which knows rows alone.
 #[derive(Clone, Copy, Debug, PartialEq, Eq)]
 pub struct UnknownGuide(pub u64);
 

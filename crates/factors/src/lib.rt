@@ -23,7 +23,7 @@ pub enum Row {
 }
 
 // A number that is no row's.
-// Not one type with those of marks and guides: a crate below all three would hold it for one word of text.
+// Not one type with those of marks and guides: it would stand in `factors`, which knows rows alone.
 #[derive(Clone, Copy, Debug, PartialEq, Eq)]
 pub struct UnknownRow(pub u64);
 

@@ -7,5 +7,6 @@ use entries::stop::Stop;
 #[derive(Drop)]
 pub struct Loaded {
     pub book: Book<'static, Guide>,
+    // None where every entry went in. An Option and no Result: the book stands beside it.
     pub stop: Option<Stop>,
 }

@@ -30,6 +30,7 @@ fn read_terms(fields: &mut Fields<'_>, count: u64) -> Result<Bill, Misread>
     ensures { held_bill (terms_in count (fields_left fields.old)) ≡ leaving result (fields_left fields.new) }
 {
     let mut bill = Bill::new();
+    // Counted: as many terms as the line says, which may be more than a collection takes.
     for _ in 0..count {
         let [row, quantity] = fields.numbers::<2>()?;
         bill.add(Activity { row, quantity });

@@ -86,7 +86,7 @@ impl Positions {
     }
 
     // Enters the balance of a month, at a new position if there is none, and says whether it could: the year has the month,
-    // and there is a position or room for one.
+    // and there is a position or room for one. A bool, since nothing else is to say: a book asks before why it could not.
     pub fn enter(&mut self, branch: u8, id: u32, month: u64, balance: u32) -> bool
         ensures entered { result ≡ can_enter branch id month (positions_in self.old) }
         ensures positions { positions_in self.new ≡ (if result then posted branch id month balance (positions_in self.old) else positions_in self.old) }

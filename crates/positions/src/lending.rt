@@ -36,7 +36,8 @@ fn note(turns: &mut [Option<Turn>], branch: u8, turn: Turn)
     }
 }
 
-// Each reads the rows on one investee by the same chain: a function cannot give it, since its type has no name.
+// Four of these go over the rows on one investee by the same chain: a function cannot name its type, and an iterator of our
+// own would be longer than the chains.
 impl Positions {
     // The exposures to an investee, added up, without the other sums: it is asked at each post.
     pub fn exposure(&self, investee: Profile) -> u64

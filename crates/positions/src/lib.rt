@@ -42,7 +42,7 @@ pub fn is_bond(kind: Kind) -> bool
     kind == Kind::Bond
 }
 
-// Whether the year has a month of this number. Months stay numbers: callers send any, and a table answers each.
+// Whether the year has a month of this number. Months stay numbers: callers send any, and each has an answer.
 fn in_year(month: u64) -> bool
     ensures { result ≡ in_year month }
 {
@@ -53,11 +53,7 @@ fn in_year(month: u64) -> bool
 fn place_of_month(month: u64) -> Option<usize>
     ensures { result ≡ (if in_year month then Some (month - 1) else None) }
 {
-    if in_year(month) {
-        Some(month as usize - 1)
-    } else {
-        None
-    }
+    in_year(month).then(|| month as usize - 1)
 }
 
 impl PositionRow {

@@ -38,7 +38,7 @@ pub enum Base {
 
 impl Base {
     // A figure as a base, which has to be given.
-    // Two functions: what a figure of 0 means is all that they differ in.
+    // Two functions and no flag: what a figure of 0 means is told by the name.
     pub fn given(figure: u64) -> Result<Base, Refusal>
         ensures { result ≡ given figure }
     {

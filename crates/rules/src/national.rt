@@ -36,7 +36,7 @@ impl Rule for National {
         ensures value { result ≡ reason_for national_tables financing }
         ensures first { FirstReason (NationalApplies financing.kind financing.size financing.days financing.exposure financing.closing) result }
     {
-        // By numbers: reasons go by ranges of kinds and sizes, tried from the top.
+        // By numbers, whose ranges are those of the guide: a reason is for several kinds or sizes at once.
         match (u8::from(financing.kind), u8::from(financing.size)) {
             (1 | 5, _) if financing.days < LEAST_DAYS => FEW_DAYS,
             (5, _) if financing.exposure < LEAST_LOAN => SMALL_LOAN,

@@ -28,7 +28,7 @@ impl From<Mark> for u64 {
 }
 
 // A number that is no mark's.
-// Not one type with those of rows and guides: a crate below all three would hold it for one word of text.
+// Not one type with those of rows and guides: it would stand in `factors`, which knows rows alone.
 #[derive(Clone, Copy, Debug, PartialEq, Eq)]
 pub struct UnknownMark(pub u64);
 

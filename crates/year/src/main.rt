@@ -41,8 +41,7 @@ fn fields(id: u64, kind: u64, investment: u64, revenue: u64) -> InvesteeFields {
     let figures = Figures {
         investment,
         revenue,
-        total_assets: 0,
-        initial_value: 0,
+        ..Figures::default()
     };
     InvesteeFields {
         id,

@@ -56,7 +56,7 @@ impl<'r, R: Rule> Book<'r, R> {
         ensures reached { ReachedByARun (R.tables self.old.rule.now) (plain self.old) → ReachedByARun (R.tables self.new.rule.now) (plain self.new) }
     {
         let count = calls.len().min(answers.len());
-        // By index: after a `zip` over `iter_mut` a proof knows nothing; its `enumerate` would go by index too.
+        // By index: after a `zip` with `iter_mut` a proof knows nothing, and `enumerate` over the answers would go by index too.
         for (i, call) in calls[..count].iter().enumerate() {
             let answer = self.apply(call);
             answers[i] = answer;

@@ -15,7 +15,7 @@ use rules::kinds::Kind;
 mod totals;
 
 // One investee: what falls to all branches, and how many positions there are on it, with what tells whether it is counted.
-// Three flags: the sums count each by itself.
+// Three flags: any of them may be set without the others.
 #[derive(Clone, Copy, Default)]
 struct Line {
     project: bool,

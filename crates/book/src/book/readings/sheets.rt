@@ -28,7 +28,7 @@ impl<'b, 'r, R: Rule> Held<'b, 'r, R> {
         let standing = self.standing();
         let profile = self.row.profile;
         let turns = self.book.positions.turns(profile);
-        // By index: after a `zip` over `iter_mut` a proof knows nothing; its `enumerate` would go by index too.
+        // By index: after a `zip` with `iter_mut` a proof knows nothing, and `enumerate` over the sums would go by index too.
         for (k, turn) in turns.iter().enumerate() {
             if let Some(turn) = turn {
                 sums[k] = added(sums[k], standing.shares(*turn, self.row));
