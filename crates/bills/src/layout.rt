@@ -10,7 +10,7 @@ use std::alloc::{AllocError, Global};
 use std::error::Error;
 use std::fmt;
 
-// The line of one item, without its line feed: no Display, since its number is its place in the bill.
+// The line of one item, without its line feed: no Display, which would need a type for this one line.
 pub fn item_line(heap: Global, number: usize, item: Item) -> Result<String, AllocError>
     ensures { IfOk result (λ s. string_bytes s ≡ item_line number item) }
 {

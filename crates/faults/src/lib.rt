@@ -45,7 +45,7 @@ pub enum Refusal {
 }
 
 impl Refusal {
-    // The number that reports print. A method and no `From`: it reads as what it is.
+    // The number that reports print. A method and no `From`: the name tells which of a fault's numbers it is.
     pub fn number(self) -> u32
         ensures { result ≡ number_of self }
     {
