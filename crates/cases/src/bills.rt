@@ -13,6 +13,7 @@ use sources::source::Source;
 
 const FILE: &str = "1 2 1\n7 5 0 2 200 0 10000 0 0 0 0 0 0 R 1001 1\n1 7 1\n2 7 1\n60000\n60000\n";
 
+// Rows by number, as callers send them.
 fn energy_bill(rt: &HostRuntime) -> Result<(), Failure> {
     let power = Activity {
         row: 6,

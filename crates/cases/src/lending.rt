@@ -11,7 +11,7 @@ use std::alloc::Global;
 
 const ID: u64 = 7;
 
-// An investee of medium size, 200 days in the year.
+// An investee of medium size, 200 days in the year: kind and size by number, as callers send them.
 fn fields(kind: u64, revenue: u64, total_assets: u64) -> InvesteeFields {
     let figures = Figures {
         revenue,

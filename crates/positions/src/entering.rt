@@ -24,7 +24,7 @@ impl Positions {
         Ok(Positions { rows })
     }
 
-    // Where the position of a branch on the investee of an id stands.
+    // Where the position of a branch on the investee of an id stands: a row to change is lent by its place.
     fn place(&self, branch: u64, id: u64) -> Option<usize>
         ensures { result ≡ first_place (is_of branch id) (positions_in self.now) }
     {
@@ -66,7 +66,7 @@ impl Positions {
         full_of_positions(self.len()) && self.place(branch, id).is_none()
     }
 
-    // Adds a position with its first balance at the end, and gives it back where there is no room.
+    // Adds a position with its first balance at the end, and gives it back where there is no room, as the table does.
     fn add(&mut self, branch: u8, id: u32, month: u64, balance: u32) -> Result<(), PositionRow>
         ensures added { positions_in self.new ≡ (if is_ok result then positions_in self.old ++ written month balance (new_position branch id) ∷ [] else positions_in self.old) }
         ensures room { is_ok result ≡ not (nat_le most_positions (length (positions_in self.old))) }

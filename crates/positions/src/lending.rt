@@ -25,7 +25,7 @@ pub struct Turn {
     pub exposure: u64,
 }
 
-// Writes the turn of a branch at its place, unless there is one.
+// Writes the turn of a branch at its place, unless there is one. A byte holds more than branches, and a table takes any.
 fn note(turns: &mut [Option<Turn>], branch: u8, turn: Turn)
     requires { length turns.old ≡ branch_count }
     ensures { turns.new ≡ noted branch turn turns.old }

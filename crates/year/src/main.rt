@@ -36,7 +36,7 @@ fn saved(base_kilograms: u64, kilograms: u64) -> Reads {
     Right(Estimate { figures, below })
 }
 
-// An investee of medium size, 200 days in the year.
+// An investee of medium size, 200 days in the year: kind and size by number, as callers send them.
 fn fields(id: u64, kind: u64, investment: u64, revenue: u64) -> InvesteeFields {
     let figures = Figures {
         investment,

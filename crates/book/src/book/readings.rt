@@ -75,7 +75,7 @@ fn sum(figures: i64, figure: i64) -> i64
     figures + figure
 }
 
-// The kilograms of one more investee.
+// The kilograms of one more investee. A function: `Kilograms` is a type of `plain`, and only a book has these bounds.
 fn added(all: Kilograms, more: Kilograms) -> Kilograms
     requires { AtMostFigures most_investees all × AtMostFigures 1 more }
     ensures { result ≡ added all more }
@@ -139,7 +139,7 @@ impl Standing {
     }
 }
 
-// An investee of a book.
+// An investee of a book. Its clauses write out the rule and the plain book, so that each is read by itself.
 #[derive(Drop)]
 struct Held<'b, 'r, R: Rule> {
     book: &'b Book<'r, R>,
