@@ -1,8 +1,25 @@
-use Rattle.std.proofs.Common.{rules}
+use Rattle.std.proofs.Common.{refl}
 use Rattle.plain.specs.Lists.{first_of, change_first}
 use Rattle.plain.specs.Parts.{exposures}
+use Rattle.plain.specs.Sums.{down_from}
 use Rattle.plain.proofs.worked_refusals.Goals as goal
 
 pub returns : goal.returns
-unfolding exposures first_of change_first
-returns c = search rules
+unfolding exposures first_of change_first down_from
+returns c = record {
+  when_opening = refl;
+  investees_held = refl;
+  when_opening_at_199 = refl;
+  when_opening_at_200 = refl;
+  when_restating = refl;
+  when_posting = refl;
+  positions_held = refl;
+  when_posting_at_499 = refl;
+  when_posting_at_500 = refl;
+  when_posting_on_a_bond = refl;
+  when_amending = refl;
+  when_amending_a_bond = refl;
+  when_amending_a_lent_bond = refl;
+  when_asking = refl;
+  a_source's_fault_unchanged = refl;
+}
