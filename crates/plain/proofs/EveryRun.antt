@@ -7,9 +7,9 @@ use Rattle.std.proofs.lemmas.Bool.{cond_both, eqb-true}
 use Rattle.rules.specs.Tables.{Tables, Lawful}
 use Rattle.rules.specs.declared.kinds.Kind.{Kind}
 use Rattle.plain.specs.Branches.{Branch}
-use Rattle.plain.specs.EveryRun.{measured, kilograms_in, ProjectsAndRestMakeAll, KeepsEveryKilogram, AtEachPoint, EveryRunKeepsEveryKilogram}
+use Rattle.plain.specs.EveryRun.{measured, kilograms_in, ProjectsAndRestMakeAll, KeepsEveryKilogram, ReachedByARun, AtEachPoint, EveryRunKeepsEveryKilogram}
 use Rattle.plain.specs.Exposures.{positions_on, lent_by, lent_to, Measure, emissions, reductions, apportionment, apportionments}
-use Rattle.plain.specs.Kept.{KeptByEveryRun, KeptUnderRule}
+use Rattle.plain.specs.Kept.{KeptByEveryRun, KeptOfBonds, KeptUnderRule}
 use Rattle.plain.specs.Lists.{Pairwise}
 use Rattle.plain.specs.Parts.{part, total, sheet, book_total, OncePerBranch, Orderly}
 use Rattle.plain.specs.PlainBook.{PlainInvestee, PlainPosition, PlainBook, empty, id_of, investee_of}
@@ -17,6 +17,7 @@ use Rattle.plain.specs.Readings.{both, is_project, book_total_of}
 use Rattle.plain.specs.Refused.{branch_out_of_range}
 use Rattle.plain.specs.Runs.{after, answer, run}
 use Rattle.plain.specs.Steps.{Step, ask_part, ask_total, ask_sheet, ask_book_total, WithinSourceLimits}
+use Rattle.plain.proofs.Bonds.{bonds-at-first, bonds-by-a-call}
 use Rattle.plain.proofs.Kept.{kept-at-first, kept-by-a-call}
 use Rattle.plain.proofs.Kilograms.{AnsweredAsDefined, kilograms-kept}
 use Rattle.plain.proofs.Lists.{all_both, found-by-key}
@@ -111,18 +112,26 @@ by-run : (t : Tables) (P : PlainBook → Type 0) → ((p : PlainBook) (c : Step)
 by-run t P keeps p [] limits ok = ok
 by-run t P keeps p (c ∷ calls) limits ok = by-run t P keeps (after t p c) calls limits.1 (keeps p c limits.0 ok)
 
+-- what each call keeps of a book that has what every run keeps, any run from the empty book comes to
+of-reached : (t : Tables) (P : PlainBook → Type 0) → P empty → ((p : PlainBook) (c : Step) → WithinSourceLimits c → KeptByEveryRun p → P p → P (after t p c)) → (p : PlainBook) → ReachedByARun t p → P p
+of-reached t P at_first keeps p reached =
+    let kept : KeptByEveryRun (run t empty reached.0) × P (run t empty reached.0) =
+    by-run t (λ p. KeptByEveryRun p × P p) (λ p c limits ok. (kept-by-a-call t p c limits ok.0, keeps p c limits ok.0 ok.1)) empty reached.0 reached.1 (kept-at-first, at_first) in
+    subst P reached.2 kept.1
+
 pub at-each-point : (t : Tables) → Lawful t → (p : PlainBook) → KeptByEveryRun p → (calls : List Step) → AllByRecursion WithinSourceLimits calls → AtEachPoint t p calls
 at-each-point t lawful p ok calls limits k =
     let kept = by-run t KeptByEveryRun (kept-by-a-call t) p (take k calls) (All-take WithinSourceLimits k calls limits) ok in
-    record { kept = kept; kilograms = kilograms-at t lawful (run t p (take k calls)) kept }
+    record {
+      kept = kept;
+      of_bonds = of-reached t KeptOfBonds bonds-at-first (λ p c limits. bonds-by-a-call t p c) (run t p (take k calls));
+      kilograms = kilograms-at t lawful (run t p (take k calls)) kept;
+    }
 
 pub every-run-keeps : EveryRunKeepsEveryKilogram
 every-run-keeps = record {
   from_the_start = λ t lawful calls limits. at-each-point t lawful empty kept-at-first calls limits;
   going_on = at-each-point;
   with_its_history = λ t lawful p calls limits before fair same. at-each-point t lawful empty kept-at-first (before ++ calls) (All-append WithinSourceLimits before calls fair limits);
-  under_its_rule = λ t lawful p reached.
-      let kept : KeptByEveryRun (run t empty reached.0) × KeptUnderRule t (run t empty reached.0) =
-      by-run t (λ p. KeptByEveryRun p × KeptUnderRule t p) (λ p c limits ok. (kept-by-a-call t p c limits ok.0, ruled-by-a-call t lawful p c limits ok.0 ok.1)) empty reached.0 reached.1 (kept-at-first, ruled-at-first t) in
-      subst (KeptUnderRule t) reached.2 kept.1;
+  under_its_rule = λ t lawful p reached. of-reached t (KeptUnderRule t) (ruled-at-first t) (ruled-by-a-call t lawful) p reached;
 }

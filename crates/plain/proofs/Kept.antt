@@ -102,20 +102,25 @@ kept_read p id change same in_range ok = record {
 
 -- ---- posts and amendments
 
--- the exposures are within the limit: the investee's own by the test, and the others' as before
-pub exposures-entered : (p : PlainBook) (id : ℕ) (x : PlainInvestee) (qs : List PlainPosition) → KeptByEveryRun p → investee_of id p ≡ Some x → ((j : ℕ) → j ≢ id → positions_on j qs ≡ positions_on j p.positions) → (P : PlainInvestee → ℕ → Type 0)
-    → AllByRecursion (λ y. P y (exposure_to y p.positions)) p.investees → P x (exposure_to x qs) → AllByRecursion (λ y. P y (exposure_to y qs)) p.investees
-exposures-entered p id x qs ok found others P before own =
+-- what holds of each investee and the positions on it: of the investee's own as it is shown, and of the others' as before
+pub all-entered : (p : PlainBook) (id : ℕ) (x : PlainInvestee) (qs : List PlainPosition) → KeptByEveryRun p → investee_of id p ≡ Some x → ((j : ℕ) → j ≢ id → positions_on j qs ≡ positions_on j p.positions)
+    → (P : PlainInvestee → List PlainPosition → Type 0) → AllByRecursion (λ y. P y (positions_on (id_of y) p.positions)) p.investees → P x (positions_on (id_of x) qs) → AllByRecursion (λ y. P y (positions_on (id_of y) qs)) p.investees
+all-entered p id x qs ok found others P before own =
     All-weaker _ _ each p.investees (all_both _ _ p.investees before (found-by-key id_of p.investees ok.ids_differ))
   where
-    each : (y : PlainInvestee) → P y (exposure_to y p.positions) × (first_of (has_id (id_of y)) p.investees ≡ Some y) → P y (exposure_to y qs)
+    each : (y : PlainInvestee) → P y (positions_on (id_of y) p.positions) × (first_of (has_id (id_of y)) p.investees ≡ Some y) → P y (positions_on (id_of y) qs)
     each y h =
         ⊎_elim
         (λ e. let same : Some x ≡ Some y = sym found ∙ ap (λ j. first_of (has_id j) p.investees) (sym e) ∙ h.1 in
         let is : x ≡ y = cc in
-        subst (λ (z : PlainInvestee). P z (exposure_to z qs)) is own)
-        (λ ne. subst (λ (rs : List PlainPosition). P y (exposures (map (lent_by y.profile.kind) rs))) (sym (others (id_of y) ne)) h.0)
+        subst (λ (z : PlainInvestee). P z (positions_on (id_of z) qs)) is own)
+        (λ ne. subst (P y) (sym (others (id_of y) ne)) h.0)
         (cases_eq (id_of y) id)
+
+-- so too of their exposures
+pub exposures-entered : (p : PlainBook) (id : ℕ) (x : PlainInvestee) (qs : List PlainPosition) → KeptByEveryRun p → investee_of id p ≡ Some x → ((j : ℕ) → j ≢ id → positions_on j qs ≡ positions_on j p.positions) → (P : PlainInvestee → ℕ → Type 0)
+    → AllByRecursion (λ y. P y (exposure_to y p.positions)) p.investees → P x (exposure_to x qs) → AllByRecursion (λ y. P y (exposure_to y qs)) p.investees
+exposures-entered p id x qs ok found others P before own = all-entered p id x qs ok found others (λ y rs. P y (exposures (map (lent_by y.profile.kind) rs))) before own
 
 within_limit : (t : Tables) (x : PlainInvestee) (qs : List PlainPosition) → too_much_lent t x qs ≡ None → exposure_to x qs ≤ most_exposure
 within_limit t x qs e = grind (arith, nat_tests)

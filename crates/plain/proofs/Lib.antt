@@ -10,6 +10,7 @@ pub mod ShutOut
 pub mod Accepted
 pub mod Positions
 pub mod Kept
+pub mod Bonds
 pub mod UnderRule
 pub mod EveryRun
 pub mod Due

@@ -7,7 +7,7 @@ use Rattle.plain.specs.declared.answers.Answer.TheVariants.{Done, Declined, Part
 use Rattle.plain.specs.declared.answers.BookTotal.{BookTotal}
 use Rattle.plain.specs.declared.answers.Kilograms.{Kilograms}
 use Rattle.plain.specs.Exposures.{Measure, emissions, reductions, apportionments}
-use Rattle.plain.specs.Kept.{KeptByEveryRun, KeptUnderRule}
+use Rattle.plain.specs.Kept.{KeptByEveryRun, KeptOfBonds, KeptUnderRule}
 use Rattle.plain.specs.Kilograms.{NoKilogramGainedOrLost}
 use Rattle.plain.specs.PlainBook.{PlainBook, empty}
 use Rattle.plain.specs.Runs.{answer, run}
@@ -40,9 +40,15 @@ pub record KeepsEveryKilogram (t : Tables) (p : PlainBook) (m : Measure) (ask : 
       (kilograms_in m (ask ask_book_total))
   pub projects_and_rest_make_all : (k : BookTotal) → ask ask_book_total ≡ Book k → ProjectsAndRestMakeAll m k
 
+-- some run from the empty book has come to p
+abbrev pub ReachedByARun : Tables → PlainBook → Type 0
+ReachedByARun t p = (calls : List Step) × AllByRecursion WithinSourceLimits calls × (run t empty calls ≡ p)
+
 -- what holds of a plain book that a run has come to, under the tables t
 pub record HoldsAt (t : Tables) (p : PlainBook) : Type 0 where
   pub kept : KeptByEveryRun p
+  -- a run may also begin with a book of which nothing is known of bonds
+  pub of_bonds : ReachedByARun t p → KeptOfBonds p
   pub kilograms : (m : Measure) → KeepsEveryKilogram t p m (answer t p)
 
 -- at each point of a run from p: before its first call, and after each of its calls
@@ -52,10 +58,6 @@ AtEachPoint t p calls = (k : ℕ) → HoldsAt t (run t p (take k calls))
 -- at each point of any run that has come to p, and of the calls that follow
 abbrev pub AtEachPointFromTheStart : Tables → PlainBook → List Step → Type 0
 AtEachPointFromTheStart t p calls = (before : List Step) → AllByRecursion WithinSourceLimits before → run t empty before ≡ p → AtEachPoint t empty (before ++ calls)
-
--- some run has come to p
-abbrev pub ReachedByARun : Tables → PlainBook → Type 0
-ReachedByARun t p = (calls : List Step) × AllByRecursion WithinSourceLimits calls × (run t empty calls ≡ p)
 
 pub record EveryRunKeepsEveryKilogram : Type 0 where
   pub from_the_start : (t : Tables) → Lawful t → (calls : List Step) → AllByRecursion WithinSourceLimits calls → AtEachPoint t empty calls

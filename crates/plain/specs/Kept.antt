@@ -1,5 +1,5 @@
 -- What every run keeps of a plain book, whatever is called, and what it keeps of it under its rule.
-use Rattle.std.specs.Prelude.{◌≡◌, ◌≤◌, true, false, ◌&&◌, ◌≢◌, length, pos, ◌≤ℤ◌, is_ok, unsigned_abs}
+use Rattle.std.specs.Prelude.{◌≡◌, ℕ, ◌≤◌, true, false, ◌&&◌, ◌≢◌, length, pos, ◌≤ℤ◌, is_ok, None, unsigned_abs, sum_by}
 use Rattle.std.specs.Option.{unwrap_or}
 use Rattle.std.specs.List.{AllByRecursion}
 use Rattle.rules.specs.Figures.{WithinLimits}
@@ -7,11 +7,11 @@ use Rattle.rules.specs.Months.{months}
 use Rattle.rules.specs.Tables.{Tables, Lawful}
 use Rattle.sources.specs.Limits.{most_kilograms}
 use Rattle.plain.specs.Branches.{Branch}
-use Rattle.plain.specs.Exposures.{is_bond, exposure_to, denominator_of}
+use Rattle.plain.specs.Exposures.{is_bond, closing_of, positions_on, exposure_to, denominator_of}
 use Rattle.plain.specs.Limits.{most_investees, most_positions, most_balance, most_exposure}
 use Rattle.plain.specs.Lists.{Pairwise}
 use Rattle.plain.specs.Parts.{AboveZero}
-use Rattle.plain.specs.PlainBook.{PlainInvestee, PlainPosition, PlainBook, empty, id_of, is_open}
+use Rattle.plain.specs.PlainBook.{PlainInvestee, PlainPosition, PlainBook, empty, id_of, is_open, balance_of}
 use Rattle.plain.specs.Readings.{positions_on_all}
 use Rattle.plain.specs.Refused.{passes}
 use Rattle.plain.specs.Runs.{after}
@@ -42,6 +42,14 @@ pub record KeptByEveryRun (p : PlainBook) : Type 0 where
   pub positions_differ : Pairwise (λ q r. r.id ≡ q.id → r.branch ≢ q.branch) p.positions
   pub exposures_within_limit : AllByRecursion (λ x. exposure_to x p.positions ≤ most_exposure) p.investees
 
+-- no month but the last has a balance
+abbrev pub PostedAtClosingOnly : PlainPosition → Type 0
+PostedAtClosingOnly q = (m : ℕ) → m ≢ months → balance_of m q ≡ None
+
+-- every position on a bond
+pub record KeptOfBonds (p : PlainBook) : Type 0 where
+  pub posted_at_closing_only : AllByRecursion (λ x. is_bond x.profile.kind ≡ true → AllByRecursion PostedAtClosingOnly (positions_on (id_of x) p.positions)) p.investees
+
 -- under the rule of the run
 pub record KeptUnderRule (t : Tables) (p : PlainBook) : Type 0 where
   -- every investee has a base, and where that is an amount, it is at least 1
@@ -54,7 +62,11 @@ pub record KeptUnderRule (t : Tables) (p : PlainBook) : Type 0 where
 pub record KeptByEachCall : Type 0 where
   pub at_first : KeptByEveryRun empty
   pub by_a_call : (t : Tables) (p : PlainBook) (c : Step) → WithinSourceLimits c → KeptByEveryRun p → KeptByEveryRun (after t p c)
+  pub at_first_of_bonds : KeptOfBonds empty
+  pub by_a_call_of_bonds : (t : Tables) (p : PlainBook) (c : Step) → KeptByEveryRun p → KeptOfBonds p → KeptOfBonds (after t p c)
   pub at_first_under_rule : (t : Tables) → KeptUnderRule t empty
   pub by_a_call_under_rule : (t : Tables) → Lawful t → (p : PlainBook) (c : Step) → WithinSourceLimits c → KeptByEveryRun p → KeptUnderRule t p → KeptUnderRule t (after t p c)
+  -- so the exposure to a bond, which counts closing balances alone, leaves out no balance
+  pub a_bond's_balances_are_closing_balances : (q : PlainPosition) → PostedAtClosingOnly q → sum_by (λ v. unwrap_or v 0) q.balances ≡ closing_of q
   -- so each position is on one investee, and a share of the positions on all investees is a share of all positions
   pub each_position_on_one_investee : (p : PlainBook) → KeptByEveryRun p → positions_on_all p p.investees ≡ length p.positions
