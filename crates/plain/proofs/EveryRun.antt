@@ -125,6 +125,7 @@ at-each-point t lawful p ok calls limits k =
     record {
       kept = kept;
       of_bonds = of-reached t KeptOfBonds bonds-at-first (λ p c limits. bonds-by-a-call t p c) (run t p (take k calls));
+      orderly = λ m. orderly t lawful (run t p (take k calls)) m kept;
       kilograms = kilograms-at t lawful (run t p (take k calls)) kept;
     }
 

@@ -9,6 +9,7 @@ use Rattle.plain.specs.declared.answers.Kilograms.{Kilograms}
 use Rattle.plain.specs.Exposures.{Measure, emissions, reductions, apportionments}
 use Rattle.plain.specs.Kept.{KeptByEveryRun, KeptOfBonds, KeptUnderRule}
 use Rattle.plain.specs.Kilograms.{NoKilogramGainedOrLost}
+use Rattle.plain.specs.Parts.{Orderly}
 use Rattle.plain.specs.PlainBook.{PlainBook, empty}
 use Rattle.plain.specs.Runs.{answer, run}
 use Rattle.plain.specs.Steps.{Step, ask_part, ask_total, ask_sheet, ask_book_total, WithinSourceLimits}
@@ -49,6 +50,8 @@ pub record HoldsAt (t : Tables) (p : PlainBook) : Type 0 where
   pub kept : KeptByEveryRun p
   -- a run may also begin with a book of which nothing is known of bonds
   pub of_bonds : ReachedByARun t p → KeptOfBonds p
+  -- what is parted, of each investee: a branch stands once, and nothing is divided by 0
+  pub orderly : (m : Measure) → AllByRecursion Orderly (apportionments t p m)
   pub kilograms : (m : Measure) → KeepsEveryKilogram t p m (answer t p)
 
 -- at each point of a run from p: before its first call, and after each of its calls
