@@ -1,47 +1,120 @@
--- Each of the simpler answers breaks the relation at a named place.
-use Rattle.std.proofs.Common.{◌≡◌, ◌≢◌, pos, nat_abs, sym, refl, ap, ◌∙◌, subst, arith, lit≤}
+-- Each of the simpler ways breaks the relation at a named place.
+use Rattle.std.proofs.Common.{◌≡◌, ℕ, ◌≢◌, List, [], ◌∷◌, ℤ, pos, nat_abs, sym, refl, ap, ◌∙◌, subst, arith, lit≤, rules}
 use borrow.Author.Differences.{ints}
+use Rattle.std.specs.List.{AllByRecursion}
+use Rattle.rules.specs.National.{national_tables}
 use Rattle.plain.specs.Branches.{Branch, branches}
-use Rattle.plain.specs.Parts.{exposures, exposure_at, share}
+use Rattle.plain.specs.EveryRun.{kilograms_in, ReachedByARun}
+use Rattle.plain.specs.Exposures.{emissions}
+use Rattle.plain.specs.Kilograms.{PartsMakeTheTotal}
+use Rattle.plain.specs.Lists.{first_of, change_first}
+use Rattle.plain.specs.Parts.{Apportionment, exposures, exposure_at, share}
+use Rattle.plain.specs.PlainBook.{PlainBook}
 use Rattle.plain.specs.Rounding.{rounded, PartNearShare}
-use Rattle.plain.specs.ShutOut.{thirds, unequal, four_months, rounded_by_itself, capped_by_itself, over_months_posted, SimplerAnswersShutOut}
+use Rattle.plain.specs.ShutOut.{thirds, unequal, four_months, lent_to, HasToPart, Way, all_to_the_first, nothing_to_anybody, rounded_by_itself, capped_by_itself, over_months_posted, GainsOrLoses, SimplerAnswersShutOut}
+use Rattle.plain.specs.Steps.{Step, enter, post, ask_part, ask_total}
 use Rattle.plain.specs.Sums.{sum_over, down_from}
+use Rattle.plain.specs.Worked.{accounts, company, reads, posts}
+use Rattle.plain.proofs.Sums.{sum-branches}
 
 first-branch : Branch 1
 first-branch = (lit≤ tt, lit≤ tt)
 
--- three thirds, each rounded by itself, come to 999, and not to 1,000
-sum-alone : sum_over branches (rounded_by_itself thirds) ≡ pos 999
-unfolding rounded exposures exposure_at sum_over down_from
-sum-alone = refl
+-- ---- the books
 
--- each capped by itself they come to 1,500
-sum-capped : sum_over branches (capped_by_itself unequal) ≡ pos 1500
-unfolding rounded exposures exposure_at sum_over down_from
-sum-capped = refl
+-- the call that opens the investee, and then others
+abbrev opening-and : List Step → List Step
+opening-and calls = enter (company 5 (accounts 10000 0)) (reads (pos 1000)) ∷ calls
 
--- over four months the one branch takes the whole figure, where a third falls to it
-over-four : over_months_posted 40000 four_months 1 ≡ pos 1000
-unfolding rounded exposures exposure_at
-over-four = refl
+reached_by_runs : AllByRecursion (ReachedByARun national_tables) (thirds ∷ unequal ∷ four_months ∷ [])
+reached_by_runs = (
+  (opening-and (posts 1 (40000 ∷ 40000 ∷ 40000 ∷ [])), search rules, refl),
+  (
+    (opening-and (posts 1 (120000 ∷ 60000 ∷ [])), search rules, refl),
+    ((opening-and (post 1 7 1 10000 ∷ post 1 7 2 10000 ∷ post 1 7 3 10000 ∷ post 1 7 4 10000 ∷ []), search rules, refl), tt),
+  ),
+)
+
+of_thirds : HasToPart thirds (40000 ∷ 40000 ∷ 40000 ∷ [])
+unfolding exposures first_of change_first
+of_thirds = refl
+
+of_unequal : HasToPart unequal (120000 ∷ 60000 ∷ [])
+unfolding exposures first_of change_first
+of_unequal = refl
+
+of_four_months : HasToPart four_months (40000 ∷ [])
+unfolding exposures first_of change_first
+of_four_months = refl
+
+-- no parts found in this way make a total
+abbrev NoTotal : Apportionment → Way → Type 0
+NoTotal a way = (f : ℕ → ℤ) (n : ℤ) → ((b : ℕ) → Branch b → f b ≡ way a b) → PartsMakeTheTotal a f n → ⊥
+
+for-its-book : (p : PlainBook) (es : List ℕ) (way : Way) → HasToPart p es → NoTotal (lent_to es) way → GainsOrLoses p way
+for-its-book p es way is none ask parted keeps =
+    none (λ b. kilograms_in emissions (ask (ask_part 7 b))) (kilograms_in emissions (ask (ask_total 7)))
+    (subst (AllByRecursion (λ a. (b : ℕ) → Branch b → kilograms_in emissions (ask (ask_part a.id b)) ≡ way a b)) is parted).0
+    (subst (AllByRecursion (λ a. PartsMakeTheTotal a (λ b. kilograms_in emissions (ask (ask_part a.id b))) (kilograms_in emissions (ask (ask_total a.id))))) is keeps.no_kilogram_gained_or_lost.of_each_investee).0
+
+-- ---- the ways
+
+near-first : (a : Apportionment) (way : Way) (f : ℕ → ℤ) (n : ℤ) → ((b : ℕ) → Branch b → f b ≡ way a b) → PartsMakeTheTotal a f n → PartNearShare (way a 1) (share a 1)
+near-first a way f n same one = subst (λ k. PartNearShare k (share a 1)) (same 1 first-branch) (one.part_near_exact_share 1 first-branch)
+
+-- the first of three thirds takes 1,000 or nothing, where its share is 333⅓
+all-to-first : NoTotal (lent_to (40000 ∷ 40000 ∷ 40000 ∷ [])) all_to_the_first
+unfolding exposures exposure_at
+all-to-first f n same one = omega (arith, near-first _ all_to_the_first f n same one)
+
+nothing : NoTotal (lent_to (40000 ∷ 40000 ∷ 40000 ∷ [])) nothing_to_anybody
+unfolding exposures exposure_at
+nothing f n same one = omega (arith, near-first _ nothing_to_anybody f n same one)
 
 not-zero : pos 1000 ≢ pos 0
 not-zero e = omega (arith, ints)
 
-pub shut_out : SimplerAnswersShutOut
+-- three thirds, each rounded by itself, come to 999, and not to 1,000
+sum-alone : sum_over branches (rounded_by_itself (lent_to (40000 ∷ 40000 ∷ 40000 ∷ []))) ≡ pos 999
+unfolding rounded exposures exposure_at sum_over down_from
+sum-alone = refl
+
+rounded-alone : NoTotal (lent_to (40000 ∷ 40000 ∷ 40000 ∷ [])) rounded_by_itself
 unfolding exposures exposure_at
+rounded-alone f n same one =
+    let e : pos 999 ≡ pos 1000 = sym sum-alone ∙ sym (sum-branches f _ same) ∙ one.parts_add_up_to_total ∙ (one.total_is_figure_iff_exposures_reach refl not-zero).1 (lit≤ tt) in
+    omega (arith, ints)
+
+-- each capped by itself they come to 1,500
+sum-capped : sum_over branches (capped_by_itself (lent_to (120000 ∷ 60000 ∷ []))) ≡ pos 1500
+unfolding rounded exposures exposure_at sum_over down_from
+sum-capped = refl
+
+capped-alone : NoTotal (lent_to (120000 ∷ 60000 ∷ [])) capped_by_itself
+capped-alone f n same one =
+    let e : pos 1500 ≡ n = sym sum-capped ∙ sym (sum-branches f _ same) ∙ one.parts_add_up_to_total in
+    omega (arith, ints, one.total_within_figure, ap nat_abs e)
+
+-- over four months the one branch takes the whole figure, where a third falls to it
+over-four : over_months_posted 40000 (lent_to (40000 ∷ [])) 1 ≡ pos 1000
+unfolding rounded exposures exposure_at
+over-four = refl
+
+months-posted : NoTotal (lent_to (40000 ∷ [])) (over_months_posted 40000)
+unfolding exposures exposure_at
+months-posted f n same one =
+    let near = subst (λ n. PartNearShare n (share (lent_to (40000 ∷ [])) 1)) over-four (near-first _ (over_months_posted 40000) f n same one) in
+    omega (arith, near)
+
+pub shut_out : SimplerAnswersShutOut
 shut_out = record {
-  all_to_the_first_branch = λ total_of sheet_of book_total_is h. omega (arith, h.of_each_investee.0.part_near_exact_share 1 first-branch);
-  every_part_zero = λ total_of sheet_of book_total_is h. omega (arith, h.of_each_investee.0.part_near_exact_share 1 first-branch);
-  each_branch_rounded_by_itself = λ total_of sheet_of book_total_is h.
-      let one = h.of_each_investee.0 in
-      let e : pos 999 ≡ pos 1000 = sym sum-alone ∙ one.parts_add_up_to_total ∙ (one.total_is_figure_iff_exposures_reach refl not-zero).1 (lit≤ tt) in
-      omega (arith, ints);
-  cap_taken_by_each_branch = λ total_of sheet_of book_total_is h.
-      let one = h.of_each_investee.0 in
-      let e : pos 1500 ≡ total_of 1 = sym sum-capped ∙ one.parts_add_up_to_total in
-      omega (arith, ints, one.total_within_figure, ap nat_abs e);
-  divided_by_months_posted = λ total_of sheet_of book_total_is h.
-      let near = subst (λ n. PartNearShare n (share four_months 1)) over-four (h.of_each_investee.0.part_near_exact_share 1 first-branch) in
-      omega (arith, near);
+  reached_by_runs = reached_by_runs;
+  of_thirds = of_thirds;
+  of_unequal = of_unequal;
+  of_four_months = of_four_months;
+  all_to_the_first_branch = for-its-book thirds (40000 ∷ 40000 ∷ 40000 ∷ []) all_to_the_first of_thirds all-to-first;
+  every_part_zero = for-its-book thirds (40000 ∷ 40000 ∷ 40000 ∷ []) nothing_to_anybody of_thirds nothing;
+  each_branch_rounded_by_itself = for-its-book thirds (40000 ∷ 40000 ∷ 40000 ∷ []) rounded_by_itself of_thirds rounded-alone;
+  cap_taken_by_each_branch = for-its-book unequal (120000 ∷ 60000 ∷ []) capped_by_itself of_unequal capped-alone;
+  divided_by_months_posted = for-its-book four_months (40000 ∷ []) (over_months_posted 40000) of_four_months months-posted;
 }
