@@ -6,6 +6,7 @@ use Rattle.plain.specs.Sums.{down_from}
 abbrev pub branch_count : ℕ
 branch_count = 40
 
+-- their numbers, the last first
 abbrev pub branches : List ℕ
 branches = down_from branch_count
 

@@ -14,6 +14,7 @@ use Rattle.plain.specs.Steps.{Meaning, Step, enter, restate, reduce, post, amend
 abbrev pub opened : Profile → Reading → PlainInvestee
 opened x r = record { profile = x; kilograms = r.kilograms; grade = r.grade; reduction = pos 0; reduced = false }
 
+-- a restatement replaces the reading, and leaves the reduction
 abbrev pub restated : Reading → PlainInvestee → PlainInvestee
 restated r x = record { profile = x.profile; kilograms = r.kilograms; grade = r.grade; reduction = x.reduction; reduced = x.reduced }
 
@@ -27,6 +28,7 @@ added (Ok x) (Ok r) xs = xs ++ opened x r ∷ []
 added (Ok x) (Err f) xs = xs
 added (Err f) meaning xs = xs
 
+-- a reading changes the investee, and a fault leaves it as it is
 abbrev pub read_into : (Reading → PlainInvestee → PlainInvestee) → Meaning → PlainInvestee → PlainInvestee
 read_into change (Ok r) x = change r x
 read_into change (Err f) x = x
@@ -37,14 +39,17 @@ read_into change (Err f) x = x
 abbrev pub with_position : ℕ → ℕ → List PlainPosition → List PlainPosition
 with_position b id qs = cond (is_some (position_of b id qs)) qs (qs ++ new_position b id ∷ [])
 
+-- month m of branch b on the investee has the balance v, in place of what it had
 abbrev pub amended : ℕ → ℕ → ℕ → ℕ → List PlainPosition → List PlainPosition
 amended b id m v qs = change_first (is_of b id) (with_balance m v) qs
 
+-- the branch has a position on the investee, old or new, and month m of it the balance v
 abbrev pub posted : ℕ → ℕ → ℕ → ℕ → List PlainPosition → List PlainPosition
 posted b id m v qs = amended b id m v (with_position b id qs)
 
 -- ---- the book
 
+-- what each call that is accepted makes of the book
 abbrev pub changed : PlainBook → Step → PlainBook
 changed p (enter fields meaning) = with_investees p (added (profile_of fields) meaning p.investees)
 changed p (restate id meaning) = with_investees p (change_first (has_id id) (read_into restated meaning) p.investees)

@@ -42,6 +42,7 @@ source_fault meaning f = meaning ≡ Err f
 
 -- ---- what the refusals speak of
 
+-- the source has a reading, of less than 0 kilograms
 abbrev pub BelowZero : Meaning → Type 0
 BelowZero meaning = (r : Reading) × (meaning ≡ Ok r) × (r.kilograms <ℤ pos 0)
 
@@ -49,9 +50,11 @@ BelowZero meaning = (r : Reading) × (meaning ≡ Ok r) × (r.kilograms <ℤ pos
 abbrev pub RuleRefuses : Tables → InvesteeFields → Refusal → Type 0
 RuleRefuses t fields refusal = (kind : Kind) × (kind_number kind ≡ fields.kind) × (t.bases kind fields.figures ≡ Err refusal)
 
+-- the number is that of no branch
 abbrev pub NoBranch : ℕ → Type 0
 NoBranch b = (b < 1) ⊎ (branch_count < b)
 
+-- branch, month or balance is out of range
 abbrev pub NoEntry : ℕ → ℕ → ℕ → Type 0
 NoEntry b m v = NoBranch b ⊎ (((m < 1) ⊎ (months < m)) ⊎ (most_balance < v))
 
@@ -62,11 +65,13 @@ OfOpen id p Holds = (x : PlainInvestee) × (investee_of id p ≡ Some x) × Hold
 abbrev pub IsBond : PlainInvestee → Type 0
 IsBond x = x.profile.kind ≡ Bond
 
+-- a bond has an amount to divide by, and its exposure is more
 abbrev pub BondPasses : Tables → List PlainPosition → PlainInvestee → Type 0
 BondPasses t qs x = IsBond x × ((w : ℕ) × (denominator_of t x ≡ at_least w) × (w < exposure_to x qs))
 
 -- ---- the order of each call
 
+-- the refusals of each call, in the order in which they are tried
 abbrev pub cases : Tables → PlainBook → Step → List Case
 cases t p (enter fields meaning) =
     (FieldOutOfRange due_if (WithinRanges fields → ⊥))
@@ -101,5 +106,6 @@ cases t p (ask_total id) = (NotOpen due_if (is_open id p ≡ false)) ∷ []
 cases t p (ask_sheet b) = (EntryOutOfRange due_if NoBranch b) ∷ []
 cases t p ask_book_total = []
 
+-- so it is of each call, under every lawful rule
 abbrev pub RefusedWhenDue : Type 0
 RefusedWhenDue = (t : Tables) → Lawful t → (p : PlainBook) (c : Step) → FirstDue (cases t p c) (declined t p c)

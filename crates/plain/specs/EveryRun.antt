@@ -14,6 +14,7 @@ use Rattle.plain.specs.PlainBook.{PlainBook, empty}
 use Rattle.plain.specs.Runs.{answer, run}
 use Rattle.plain.specs.Steps.{Step, ask_part, ask_total, ask_sheet, ask_book_total, WithinSourceLimits}
 
+-- the kilograms of one measure
 abbrev pub measured : Measure → Kilograms → ℤ
 measured emissions k = k.emissions
 measured reductions k = k.reductions
@@ -50,7 +51,7 @@ pub record HoldsAt (t : Tables) (p : PlainBook) : Type 0 where
   pub kept : KeptByEveryRun p
   -- a run may also begin with a book of which nothing is known of bonds
   pub of_bonds : ReachedByARun t p → KeptOfBonds p
-  -- what is parted, of each investee: a branch stands once, and nothing is divided by 0
+  -- what is parted: of each investee a branch stands once, and an amount to divide by is above 0
   pub orderly : (m : Measure) → AllByRecursion Orderly (apportionments t p m)
   pub kilograms : (m : Measure) → KeepsEveryKilogram t p m (answer t p)
 
@@ -62,6 +63,7 @@ AtEachPoint t p calls = (k : ℕ) → HoldsAt t (run t p (take k calls))
 abbrev pub AtEachPointFromTheStart : Tables → PlainBook → List Step → Type 0
 AtEachPointFromTheStart t p calls = (before : List Step) → AllByRecursion WithinSourceLimits before → run t empty before ≡ p → AtEachPoint t empty (before ++ calls)
 
+-- of runs from the empty book; from any book that has what every run keeps; and from a book, with each run that may have come to it
 pub record EveryRunKeepsEveryKilogram : Type 0 where
   pub from_the_start : (t : Tables) → Lawful t → (calls : List Step) → AllByRecursion WithinSourceLimits calls → AtEachPoint t empty calls
   pub going_on : (t : Tables) → Lawful t → (p : PlainBook) → KeptByEveryRun p → (calls : List Step) → AllByRecursion WithinSourceLimits calls → AtEachPoint t p calls

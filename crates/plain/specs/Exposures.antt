@@ -24,6 +24,7 @@ is_bond Bond = true
 
 -- ---- exposures
 
+-- the closing balance of a position, an unposted one as 0
 abbrev pub closing_of : PlainPosition → ℕ
 closing_of q = unwrap_or (balance_of months q) 0
 
@@ -35,6 +36,7 @@ exposure_of kind q = cond (is_bond kind) (months * closing_of q) (sum_by (λ m. 
 abbrev pub positions_on : ℕ → List PlainPosition → List PlainPosition
 positions_on id qs = filter (λ q. nat_eq q.id id) qs
 
+-- what a position comes to in the year
 abbrev pub lent_by : Kind → PlainPosition → Lent
 lent_by kind q = record { branch = q.branch; exposure = exposure_of kind q }
 
@@ -42,9 +44,11 @@ lent_by kind q = record { branch = q.branch; exposure = exposure_of kind q }
 abbrev pub lent_to : PlainInvestee → List PlainPosition → List Lent
 lent_to x qs = map (lent_by x.profile.kind) (positions_on (id_of x) qs)
 
+-- an investee's exposure, over all branches
 abbrev pub exposure_to : PlainInvestee → List PlainPosition → ℕ
 exposure_to x qs = exposures (lent_to x qs)
 
+-- an investee's closing balance, over all branches
 abbrev pub closing_to : PlainInvestee → List PlainPosition → ℕ
 closing_to x qs = sum_by closing_of (positions_on (id_of x) qs)
 
@@ -56,9 +60,11 @@ denominator_from (Ok (Amount n)) = at_least (months * n)
 denominator_from (Ok Whole) = whole
 denominator_from (Err e) = whole
 
+-- what the rule divides an investee's exposures by
 abbrev pub denominator_of : Tables → PlainInvestee → Denominator
 denominator_of t x = denominator_from (t.bases x.profile.kind x.profile.figures)
 
+-- the rule's reason to leave an investee out, with what is lent to it
 abbrev pub reason_of : Tables → List PlainPosition → PlainInvestee → ℕ
 reason_of t qs x = t.reasons x.profile.kind x.profile.size x.profile.days (exposure_to x qs) (closing_to x qs)
 
@@ -71,6 +77,7 @@ pub data Measure : Type 0 where
   emissions : Measure
   reductions : Measure
 
+-- the kilograms that are parted
 abbrev pub figure_of : Measure → PlainInvestee → ℤ
 figure_of emissions x = x.kilograms
 figure_of reductions x = x.reduction
@@ -79,5 +86,6 @@ figure_of reductions x = x.reduction
 abbrev pub apportionment : Tables → List PlainPosition → Measure → PlainInvestee → Apportionment
 apportionment t qs m x = record { id = id_of x; figure = figure_of m x; denominator = denominator_of t x; lent = lent_to x qs; counted = is_counted t qs x }
 
+-- one measure of the whole book, investee by investee
 abbrev pub apportionments : Tables → PlainBook → Measure → List Apportionment
 apportionments t p m = map (apportionment t p.positions m) p.investees

@@ -17,6 +17,7 @@ use Rattle.plain.specs.Refused.{passes}
 use Rattle.plain.specs.Runs.{after}
 use Rattle.plain.specs.Steps.{Step, WithinSourceLimits}
 
+-- an investee's figures, kilograms and grade are within their limits
 pub record InvesteeInRange (x : PlainInvestee) : Type 0 where
   pub figures_within_limits : WithinLimits x.profile.figures
   pub kilograms_within_limit : unsigned_abs x.kilograms ≤ most_kilograms
@@ -25,11 +26,13 @@ pub record InvesteeInRange (x : PlainInvestee) : Type 0 where
   pub grade_from : 1 ≤ x.grade
   pub grade_to : x.grade ≤ 5
 
+-- a position is of a branch, and has twelve months with balances within their limit
 pub record PositionInRange (q : PlainPosition) : Type 0 where
   pub branch_in_range : Branch q.branch
   pub a_place_for_each_month : length q.balances ≡ months
   pub balances_within_limit : AllByRecursion (λ v. unwrap_or v 0 ≤ most_balance) q.balances
 
+-- of the book as a whole, whatever the rule
 pub record KeptByEveryRun (p : PlainBook) : Type 0 where
   pub investees_within_limit : length p.investees ≤ most_investees
   pub positions_within_limit : length p.positions ≤ most_positions

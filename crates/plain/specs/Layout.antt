@@ -14,6 +14,7 @@ use Rattle.plain.specs.declared.answers.Subtotal.{Subtotal}
 abbrev pub kilograms_text : Kilograms → List ℕ
 kilograms_text k = signed_decimal k.emissions ++ (codes " kg, reduction " ++ (signed_decimal k.reductions ++ codes " kg"))
 
+-- an investee's total
 abbrev pub total_text : InvesteeTotal → List ℕ
 total_text t = kilograms_text t.kilograms ++ (codes ", reason " ++ (decimal t.reason ++ (codes ", grade " ++ decimal t.grade)))
 
@@ -28,6 +29,7 @@ book_total_text b =
     codes "projects " ++ (subtotal_text b.projects ++ (codes "; rest " ++ (subtotal_text b.rest
     ++ (codes "; all " ++ (subtotal_text b.all ++ (codes "; mean grade " ++ two_decimals b.mean_grade))))))
 
+-- each kind of answer
 abbrev pub answer_text : Answer → List ℕ
 answer_text Done = codes "done"
 answer_text (Declined f) = fault_text f

@@ -47,6 +47,7 @@ unfoldable pub exposure_before : List Lent → ℕ → ℕ
 exposure_before [] b = 0
 exposure_before (l ∷ ls) b = cond (l.branch == b) 0 (l.exposure + exposure_before ls b)
 
+-- the larger of a denominator and the exposures s
 abbrev pub base_of : Denominator → ℕ → ℕ
 base_of (at_least w) s = max w s
 base_of whole s = s
@@ -55,6 +56,7 @@ base_of whole s = s
 abbrev pub base : Apportionment → ℕ
 base a = max 1 (base_of a.denominator (exposures a.lent))
 
+-- exposures s are at least the denominator; for "whole", above 0
 abbrev pub ReachedBy : Denominator → ℕ → Type 0
 ReachedBy (at_least w) s = w ≤ s
 ReachedBy whole s = 0 < s
@@ -77,6 +79,7 @@ all_shares a = sum_over branches (λ b. (share a b).top) over base a
 abbrev pub exact_sum : List Apportionment → Fraction
 exact_sum all = sum_of_fractions all all_shares
 
+-- how many investees are counted
 abbrev pub counted_in : List Apportionment → ℕ
 counted_in all = count_by (λ a. a.counted) all
 
@@ -107,10 +110,12 @@ pub record OncePerBranch (ls : List Lent) : Type 0 where
   pub branches_in_range : AllByRecursion (λ l. Branch l.branch) ls
   pub branches_differ : Pairwise (λ l m. m.branch ≢ l.branch) ls
 
+-- an amount to divide by is above 0
 abbrev pub AboveZero : Denominator → Type 0
 AboveZero (at_least w) = 0 < w
 AboveZero whole = Unit {0}
 
+-- both, of what is to be parted
 pub record Orderly (a : Apportionment) : Type 0 where
   pub once_per_branch : OncePerBranch a.lent
   pub above_zero : AboveZero a.denominator

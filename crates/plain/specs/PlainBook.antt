@@ -45,6 +45,7 @@ has_id id x = id_of x == id
 abbrev pub investee_of : ℕ → PlainBook → Option PlainInvestee
 investee_of id p = first_of (has_id id) p.investees
 
+-- an investee of this id is in the book
 abbrev pub is_open : ℕ → PlainBook → Bool
 is_open id p = is_some (investee_of id p)
 
@@ -54,6 +55,7 @@ is_open id p = is_some (investee_of id p)
 abbrev pub is_of : ℕ → ℕ → PlainPosition → Bool
 is_of b id q = q.branch == b && q.id == id
 
+-- the position of branch b on the investee of this id
 abbrev pub position_of : ℕ → ℕ → List PlainPosition → Option PlainPosition
 position_of b id qs = first_of (is_of b id) qs
 
@@ -65,9 +67,11 @@ new_position b id = record { branch = b; id = id; balances = replicate months No
 abbrev pub balance_of : ℕ → PlainPosition → Option ℕ
 balance_of m q = slice_index_or q.balances (m - 1) None
 
+-- the position with the balance v in month m, and its other months as they were
 abbrev pub with_balance : ℕ → ℕ → PlainPosition → PlainPosition
 with_balance m v q = record { branch = q.branch; id = q.id; balances = slice_set q.balances (m - 1) (Some v) }
 
+-- there is a position, and its month m has a balance
 abbrev pub posted_in : ℕ → Option PlainPosition → Bool
 posted_in m None = false
 posted_in m (Some q) = is_some (balance_of m q)

@@ -18,14 +18,17 @@ use Rattle.plain.specs.Parts.{part, total, sheet, book_total}
 use Rattle.plain.specs.PlainBook.{PlainInvestee, PlainBook, id_of, investee_of}
 use Rattle.plain.specs.Steps.{Step, enter, restate, reduce, post, amend, ask_part, ask_total, ask_sheet, ask_book_total}
 
+-- a figure for each measure
 abbrev pub both : (Measure → ℤ) → Kilograms
 both f = record { emissions = f emissions; reductions = f reductions }
 
 -- ---- one investee
 
+-- the part of branch b on an investee
 abbrev pub part_of : Tables → PlainBook → ℕ → PlainInvestee → Kilograms
 part_of t p b x = both (λ m. part (apportionment t p.positions m x) b)
 
+-- an investee's total, with its reason and its grade
 abbrev pub total_of : Tables → PlainBook → PlainInvestee → InvesteeTotal
 total_of t p x = record { kilograms = both (λ m. total (apportionment t p.positions m x)); reason = reason_of t p.positions x; grade = x.grade }
 
@@ -36,6 +39,7 @@ of_investee (Some x) f = f x
 
 -- ---- the whole book
 
+-- the sheet of branch b
 abbrev pub sheet_of : Tables → PlainBook → ℕ → Kilograms
 sheet_of t p b = both (λ m. sheet (apportionments t p m) b)
 
@@ -75,6 +79,7 @@ hundredths k n = cond (n == 0) None (Some (10000 * k / n))
 abbrev pub cover_of : Tables → PlainBook → Measure → List PlainInvestee → Option ℕ
 cover_of t p m xs = hundredths (positions_on_all p (filter (covers t p m) xs)) (positions_on_all p xs)
 
+-- what falls to all branches for these investees, and what share of their positions it covers
 abbrev pub subtotal_of : Tables → PlainBook → List PlainInvestee → Subtotal
 subtotal_of t p xs = record {
   kilograms = both (λ m. book_total (map (apportionment t p.positions m) xs));
@@ -82,6 +87,7 @@ subtotal_of t p xs = record {
   reductions_cover = cover_of t p reductions xs;
 }
 
+-- the kind is that of projects
 abbrev pub project_kind : Kind → Bool
 project_kind Project = true
 project_kind PropertyDevelopment = false
@@ -97,6 +103,7 @@ is_project x = project_kind x.profile.kind
 abbrev pub mean_grade_of : Tables → PlainBook → Option ℕ
 mean_grade_of t p = mean_of (λ x. exposure_to x p.positions) (λ x. x.grade) (filter (is_counted t p.positions) p.investees)
 
+-- the book total
 abbrev pub book_total_of : Tables → PlainBook → BookTotal
 book_total_of t p = record {
   projects = subtotal_of t p (filter is_project p.investees);
@@ -107,6 +114,7 @@ book_total_of t p = record {
 
 -- ---- the answers
 
+-- what each accepted call answers
 abbrev pub gives : Tables → PlainBook → Step → Answer
 gives t p (enter fields meaning) = Done
 gives t p (restate id meaning) = Done

@@ -46,9 +46,11 @@ if_read (Err f) next = Some f
 
 -- ---- tests
 
+-- the number is not from 1 to 40
 abbrev pub branch_out_of_range : ℕ → Bool
 branch_out_of_range b = nat_lt b 1 || nat_lt branch_count b
 
+-- branch, month or balance is not within its range
 abbrev pub entry_out_of_range : ℕ → ℕ → ℕ → Bool
 entry_out_of_range b m v = branch_out_of_range b || ((nat_lt m 1 || nat_lt months m) || nat_lt most_balance v)
 
@@ -60,6 +62,7 @@ bond_outside_closing x m = is_bond x.profile.kind && not (m == months)
 abbrev pub no_room_for : ℕ → ℕ → List PlainPosition → Bool
 no_room_for b id qs = not (is_some (position_of b id qs)) && nat_le most_positions (length qs)
 
+-- exposures s are more than the amount to divide by
 abbrev pub passes : ℕ → Denominator → Bool
 passes s (at_least w) = nat_lt w s
 passes s whole = false
@@ -70,11 +73,13 @@ too_much_lent t x qs =
     refuse (nat_lt most_exposure (exposure_to x qs)) ExposureTooLarge
     (refuse (is_bond x.profile.kind && passes (exposure_to x qs) (denominator_of t x)) BondAboveDenominator None)
 
+-- refused where the reading is below 0
 abbrev pub below_zero : Reading → Option Fault
 below_zero r = refuse (int_lt r.kilograms (pos 0)) ReadingBelowZero None
 
 -- ---- the calls
 
+-- the fault with which a call is declined, or nothing where it is accepted
 abbrev pub declined : Tables → PlainBook → Step → Option Fault
 declined t p (enter fields meaning) =
     if_in_range (profile_of fields) (λ x.

@@ -19,6 +19,7 @@ unless (Some f) x otherwise = otherwise f
 abbrev pub after : Tables → PlainBook → Step → PlainBook
 after t p c = unless (declined t p c) (changed p c) (λ f. p)
 
+-- what one call is answered
 abbrev pub answer : Tables → PlainBook → Step → Answer
 answer t p c = unless (declined t p c) (gives t p c) Declined
 

@@ -45,6 +45,7 @@ HasToPart p es = apportionments national_tables p emissions ≡ lent_to es ∷ [
 
 -- ---- ways of parting: what falls to a branch
 
+-- for what is to be parted and a branch, its part
 abbrev pub Way : Type 0
 Way = Apportionment → ℕ → ℤ
 
@@ -76,6 +77,7 @@ PartedBy way p ask = AllByRecursion (λ a. (b : ℕ) → Branch b → kilograms_
 abbrev pub GainsOrLoses : PlainBook → Way → Type 0
 GainsOrLoses p way = (ask : Step → Answer) → PartedBy way p ask → KeepsEveryKilogram national_tables p emissions ask → ⊥
 
+-- the books, and each way with a book that shuts it out
 pub record SimplerAnswersShutOut : Type 0 where
   pub reached_by_runs : AllByRecursion (ReachedByARun national_tables) (thirds ∷ unequal ∷ four_months ∷ [])
   pub of_thirds : HasToPart thirds (40000 ∷ 40000 ∷ 40000 ∷ [])

@@ -27,6 +27,7 @@ company kind figures = record { id = 7; kind = kind; sector = 0; size = 2; days 
 abbrev pub accounts : ℕ → ℕ → Figures
 accounts revenue assets = record { investment = 0; revenue = revenue; total_assets = assets; initial_value = 0 }
 
+-- a reading of grade 1
 abbrev pub reads : ℤ → Meaning
 reads kilograms = Ok (reading kilograms 1)
 
@@ -39,15 +40,18 @@ posts b (v ∷ vs) = post b 7 1 v ∷ posts (suc b) vs
 abbrev pub lent : ℤ → List ℕ → PlainBook
 lent kilograms balances = run national_tables empty (enter (company 5 (accounts 10000 0)) (reads kilograms) ∷ posts 1 balances)
 
+-- what the parts of these branches on 7 are
 abbrev pub parts_asked : PlainBook → List ℕ → List Answer
 parts_asked p branches = map (λ b. answer national_tables p (ask_part 7 b)) branches
 
 abbrev pub kilograms : ℤ → ℤ → Kilograms
 kilograms e r = record { emissions = e; reductions = r }
 
+-- a part of emissions, and nothing of a reduction
 abbrev pub emitted : ℤ → Answer
 emitted e = Part (kilograms e (pos 0))
 
+-- a total of emissions with its reason, and nothing of a reduction
 abbrev pub totalled : ℤ → ℕ → Answer
 totalled e reason = Total (record { kilograms = kilograms e (pos 0); reason = reason; grade = 1 })
 
@@ -55,6 +59,7 @@ totalled e reason = Total (record { kilograms = kilograms e (pos 0); reason = re
 abbrev pub thirds_with_reduction : PlainBook
 thirds_with_reduction = run national_tables (lent (pos 1000) (40000 ∷ 40000 ∷ 40000 ∷ [])) (reduce 7 (reads (neg_ℤ (pos 1000))) ∷ [])
 
+-- a part of n kg of emissions and of −n kg of the reduction
 abbrev pub third_of : ℕ → Answer
 third_of n = Part (kilograms (pos n) (neg_ℤ (pos n)))
 
@@ -65,6 +70,7 @@ bond = run pudong_tables empty (enter (company 6 (accounts 0 1000)) (reads (pos 
 
 -- ---- sources
 
+-- a quantity with the row of its factor
 abbrev pub activity : ℕ → ℕ → Activity
 activity row quantity = record { row = row; quantity = quantity }
 

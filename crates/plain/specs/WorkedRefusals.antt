@@ -135,6 +135,7 @@ amendments =
     ∷ (amend 1 7 1 8999999, 0)
     ∷ []
 
+-- nothing is posted on it yet
 abbrev pub amendments_of_aBond : List (Step × ℕ)
 amendments_of_aBond = (amend 1 7 11 900000, 21) ∷ (amend 1 7 12 900000, 23) ∷ []
 

@@ -19,6 +19,7 @@ loan_to id = record { id = id; kind = 5; sector = 0; size = 2; days = 200; figur
 abbrev pub project : InvesteeFields
 project = record { id = 8; kind = 1; sector = 0; size = 1; days = 30; figures = record { investment = 1000; revenue = 0; total_assets = 0; initial_value = 0 } }
 
+-- the calls of the year, in their order
 abbrev pub year : List Step
 year =
     enter (loan_to 7) (Ok (reading (pos 1000) 1))
@@ -37,12 +38,15 @@ year =
     ∷ post 1 9 12 5999
     ∷ []
 
+-- what the book answers at the end of the year
 abbrev pub of_year : Step → Answer
 of_year c = answer national_tables (run national_tables empty year) c
 
+-- kilograms of both measures, and the shares of positions that they cover
 abbrev pub subtotal : ℤ → ℤ → Option ℕ → Option ℕ → Subtotal
 subtotal e r ce cr = record { kilograms = kilograms e r; emissions_cover = ce; reductions_cover = cr }
 
+-- of no positions
 abbrev pub nothing : Subtotal
 nothing = subtotal (pos 0) (pos 0) None None
 
