@@ -18,3 +18,5 @@ pub mod Exposures
 pub mod Runs
 pub mod Sizes
 pub mod OnOne
+pub mod FirstPosts
+pub mod WorkedRefusals

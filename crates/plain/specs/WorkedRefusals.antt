@@ -1,5 +1,5 @@
 -- Worked refusals: calls to which several refusals apply at once, and the number of the one that comes first.
-use Rattle.std.specs.Prelude.{◌≡◌, ℕ, ◌+◌, ◌/◌, ◌%◌, List, [], ◌∷◌, ◌++◌, map, length, pos, negsuc, Err}
+use Rattle.std.specs.Prelude.{◌≡◌, ℕ, ◌+◌, ◌/◌, ◌%◌, List, [], ◌∷◌, map, length, pos, negsuc, Err}
 use Rattle.faults.specs.Refusals.{fault, number_of}
 use Rattle.faults.specs.declared.Refusal.TheVariants.{Custom}
 use Rattle.rules.specs.National.{national_tables}
@@ -8,7 +8,7 @@ use Rattle.rules.specs.Tables.{Tables}
 use Rattle.plain.specs.declared.answers.Answer.{Answer}
 use Rattle.plain.specs.declared.answers.Answer.TheVariants.{Done, Declined, Part, Total, Sheet, Book}
 use Rattle.plain.specs.Branches.{branch_count}
-use Rattle.plain.specs.PlainBook.{PlainPosition, PlainBook, with_positions, new_position, with_balance}
+use Rattle.plain.specs.PlainBook.{PlainBook}
 use Rattle.plain.specs.Runs.{answer, run}
 use Rattle.plain.specs.Steps.{Meaning, Step, enter, restate, reduce, post, amend, ask_part, ask_total, ask_sheet}
 use Rattle.plain.specs.Sums.{down_from}
@@ -45,13 +45,13 @@ fails = Err (fault (Custom 77) 3 12)
 abbrev pub with_others : ℕ → PlainBook
 with_others n = run national_tables loan (map (λ k. opening (1000 + k) 5 200 10000 (reads (pos 0))) (down_from n))
 
--- a first post of 0 in month 1: each branch on the first of the others, then each on the next
-abbrev pub first_post : ℕ → PlainPosition
-first_post k = with_balance 1 0 (new_position (1 + k % branch_count) (1001 + k / branch_count))
+-- a post of 0 in month 1: each branch on the first of the others, then each on the next
+abbrev pub first_post : ℕ → Step
+first_post k = post (1 + k % branch_count) (1001 + k / branch_count) 1 0
 
--- loan with 13 others, and n positions on these after its own two
-abbrev pub with_posts : ℕ → PlainBook
-with_posts n = with_positions (with_others 13) (loan.positions ++ map first_post (down_from n))
+-- loan with 13 others, and n such posts after its own two
+unfoldable pub with_posts : ℕ → PlainBook
+with_posts n = run national_tables (with_others 13) (map first_post (down_from n))
 
 -- ---- the calls with their numbers; most rows with a refusal have others that would apply later
 
