@@ -54,7 +54,18 @@ const SMALL_FILES: &[(&str, &str)] = &[
     ("0 1 1\n1 7\n60000\n", "X 2 30 3 0"),
     ("0 2 1\n1 7 1\n2 7 1\n60000\n6 0\n", "X 5 30 2 0"),
     ("0 2 1\n1 7 1\n2 7 1\n60000\n-1\n", "X 5 30 1 0"),
+    ("0 2 1\n1 7 1\n2 7 1\n60000\n6x\n", "X 5 30 1 0"),
     ("0 1 1\n1 7 1\n60000\n1", "X 4 32 0 0"),
+    ("0 1 1\n1 7 1\n60000", "X 3 32 0 0"),
+    ("0 1 1\n1 7 1\n60000\r\n", "X 3 30 1 0"),
+    ("0 1 1\n1 7 1\n060000\n", "X 3 30 1 0"),
+    ("0 1 1\n1 7 1\n9999999999999\n", "0 1"),
+    ("0 1 1\n1 7 1\n10000000000000\n", "X 3 30 1 0"),
+    ("0 1 1\n1  7 1\n60000\n", "X 2 30 2 0"),
+    ("0 1 1\n1 7 1 \n60000\n", "X 2 30 4 0"),
+    // from the top: an earlier line before a later one, and in one line 32 before 30
+    ("0 1 1\n1 7 x\n60000", "X 2 30 3 0"),
+    ("0 1 1\n1 7 1\nx", "X 3 32 0 0"),
 ];
 
 #[test]
@@ -140,6 +151,58 @@ fn long_lines(rt: HostRuntime) -> Result<(), Fail> {
     assert!(rt; over.len() == 513);
     let text = answer(rt.alloc(), over.as_str().as_bytes())?;
     assert!(rt; text.as_str() == "X 1 30 0 0");
+    Ok(())
+}
+
+// An investee's line with so many terms of an energy bill, without its line feed.
+fn long_bill(heap: Global, id: &str, terms: usize) -> Result<String, AllocError> {
+    let numbers = repeated(heap, " 1 1", terms)?;
+    format!(in heap; "{id} 5 0 2 200 0 10000 0 0 0 0 0 0 P {terms}{numbers}")
+}
+
+#[test]
+fn long_bills(rt: HostRuntime) -> Result<(), Fail> {
+    // 512 bytes with the line feed: 39 + 4 × 118 + 1
+    let longest = long_bill(rt.alloc(), "777", 118)?;
+    let file = format!(in rt.alloc(); "1 0 1\n{longest}\n")?;
+    assert!(rt; file.len() == 6 + 512);
+    let text = answer(rt.alloc(), file.as_str().as_bytes())?;
+    assert!(rt; text.as_str() == "1 0");
+    let over = long_bill(rt.alloc(), "7777", 118)?;
+    let file = format!(in rt.alloc(); "1 0 1\n{over}\n")?;
+    assert!(rt; file.len() == 6 + 513);
+    let text = answer(rt.alloc(), file.as_str().as_bytes())?;
+    assert!(rt; text.as_str() == "X 2 30 0 0");
+    // whatever it holds, but without a line feed it is missing
+    let file = format!(in rt.alloc(); "1 0 1\n{over}x\n")?;
+    let text = answer(rt.alloc(), file.as_str().as_bytes())?;
+    assert!(rt; text.as_str() == "X 2 30 0 0");
+    let file = format!(in rt.alloc(); "1 0 1\n{over}")?;
+    let text = answer(rt.alloc(), file.as_str().as_bytes())?;
+    assert!(rt; text.as_str() == "X 2 32 0 0");
+    Ok(())
+}
+
+// A file of 65,536 bytes that is laid out, and the same with one byte more.
+#[test]
+fn longest_file(rt: HostRuntime) -> Result<(), Fail> {
+    let longest = long_bill(rt.alloc(), "777", 118)?;
+    let last = long_bill(rt.alloc(), "777", 116)?;
+    // 8 + 127 × 512 + 504 bytes
+    let mut file = String::new(rt.alloc());
+    file.push_str("128 0 1\n")?;
+    for _ in 0..127 {
+        file.push_str(longest.as_str())?;
+        file.push_str("\n")?;
+    }
+    file.push_str(last.as_str())?;
+    file.push_str("\n")?;
+    assert!(rt; file.len() == 65_536);
+    let text = answer(rt.alloc(), file.as_str().as_bytes())?;
+    assert!(rt; text.as_str() == "128 0");
+    file.push_str("1")?;
+    let text = answer(rt.alloc(), file.as_str().as_bytes())?;
+    assert!(rt; text.as_str() == "X 1 31 0 0");
     Ok(())
 }
 
