@@ -1,5 +1,5 @@
 -- What loading a file gives.
-use Rattle.std.specs.Prelude.{◌≡◌, ℕ, true, List, is_err, Ok, Err, Result}
+use Rattle.std.specs.Prelude.{◌≡◌, ℕ, List, Ok, Err, Result}
 use Rattle.entries.specs.Entries.{PlainPortfolio}
 use Rattle.entries.specs.Guides.{guide_tables}
 use Rattle.entries.specs.declared.guide.Guide.{Guide}
@@ -49,7 +49,12 @@ abbrev pub EnteredAs : PlainPortfolio → Result PlainLoaded Stop → Type 0
 EnteredAs f (Ok l) = EnteredInOrder f l
 EnteredAs f (Err s) = ⊥
 
+-- a book has come of a portfolio whose text the bytes are; bytes without a book are the text of none, and stop where the layout does
+abbrev pub HasComeOf : List ℕ → Result PlainLoaded Stop → Type 0
+HasComeOf bytes (Ok l) = (f : PlainPortfolio) × IsTextOf f bytes × EnteredInOrder f l
+HasComeOf bytes (Err s) = (layout_of bytes ≡ Err s) × ((f : PlainPortfolio) → IsTextOf f bytes → ⊥)
+
 -- Exactly the texts of portfolios give a book.
 pub record LoadsPortfolios (bytes : List ℕ) (r : Result PlainLoaded Stop) : Type 0 where
   pub of_a_portfolio : (f : PlainPortfolio) → IsTextOf f bytes → EnteredAs f r
-  pub of_none : ((f : PlainPortfolio) → IsTextOf f bytes → ⊥) → is_err r ≡ true
+  pub of_no_other : HasComeOf bytes r
