@@ -1,5 +1,5 @@
 // Fields read one after another.
-ghost use Rattle.std.specs.Prelude.{◌≡◌, ℕ, suc};
+ghost use Rattle.std.specs.Prelude.{◌≡◌, ℕ, suc, OnErr};
 ghost use Rattle.lines.specs.Fields.{numbers_of, first, leaving_fields};
 ghost use Rattle.lines.specs.Pieces.{left_in};
 
@@ -37,13 +37,16 @@ fn next_number(fields: &mut Pieces<'_>) -> Option<u64>
     number(fields.next()?)
 }
 
-// The next K fields as numbers, or the first of them that is wrong or missing.
+// The next K fields as numbers, or the first of them that is wrong or missing; then none is taken.
 pub fn numbers<const K: usize>(fields: &mut Pieces<'_>) -> Result<[u64; K], WrongField>
-    ensures { numbers_of K 0 (left_in fields.old) ≡ leaving_fields result (left_in fields.new) }
+    ensures read { numbers_of K 0 (left_in fields.old) ≡ leaving_fields result (left_in fields.new) }
+    ensures none_taken { OnErr result (fields.new ≡ fields.old) }
 {
+    let mut ahead = *fields;
     let mut out = [0; K];
     for (i, n) in out.iter_mut().enumerate() {
-        *n = next_number(fields).ok_or(WrongField(i))?;
+        *n = next_number(&mut ahead).ok_or(WrongField(i))?;
     }
+    *fields = ahead;
     Ok(out)
 }
