@@ -37,9 +37,9 @@ no-post-given (e ∷ es) left h = let z : ◌≡◌ {A = ℕ} 0 1 = cc h.0 in ab
 pub investees-give : GivesCalls GivesInvestee opening_held (λ c. map opening (investees_left c))
 investees-give =
     record {
-      next = λ s x t h. let given = entry-given _ _ _ h in ap (map opening) given.first ∙ ap (λ c. c ∷ map opening (investees_left t)) (sym given.opens);
-      none = λ s t h. ap (map opening) (no-entry-given _ _ h);
+      next = λ s x t h. let given = entry-given _ _ _ h.0 in ap (map opening) given.first ∙ ap (λ c. c ∷ map opening (investees_left t)) (sym given.opens);
+      none = λ s t h. ap (map opening) (no-entry-given _ _ h.0);
     }
 
 pub posts-give : GivesCalls GivesPost posting (λ c. map posting (posts_left c))
-posts-give = record { next = λ s x t h. ap (map posting) (post-given _ _ _ h); none = λ s t h. ap (map posting) (no-post-given _ _ h) }
+posts-give = record { next = λ s x t h. ap (map posting) (post-given _ _ _ h.0); none = λ s t h. ap (map posting) (no-post-given _ _ h.0) }

@@ -15,7 +15,7 @@ pub struct Investees<'a> {
 }
 
 impl Investees<'_> {
-    // How many are left in a cursor as a portfolio gives it; after a `next`, what it counts is not said.
+    // How many are left.
     pub fn len(&self) -> usize
         ensures { result ≡ investee_count self.now }
     {
@@ -47,7 +47,7 @@ pub struct Posts<'a> {
 }
 
 impl Posts<'_> {
-    // How many are left in a cursor as a portfolio gives it; after a `next`, what it counts is not said.
+    // How many are left.
     pub fn len(&self) -> usize
         ensures { result ≡ post_count self.now }
     {

@@ -1,7 +1,7 @@
 // Lines of a file, one after another.
 ghost use Rattle.std.specs.Prelude.{◌≡◌};
 ghost use Rattle.lines.specs.Pieces.{left_in};
-ghost use Rattle.portfolio.specs.Cursors.{lines_left, NextRead};
+ghost use Rattle.portfolio.specs.Cursors.{lines_left, NextRead, OneFewer};
 ghost use Rattle.portfolio.specs.Layout.{next_line, gone};
 
 use lines::pieces::Pieces;
@@ -30,7 +30,8 @@ impl Section<'_> {
     // What the next line reads as; nothing after the last, and from the first on that does not read.
     pub fn read_next<T, F: Fn(&[u8]) -> Result<T, Misread>>(&mut self, read: F) -> Option<T>
         requires { F.IsAlwaysCallable read }
-        ensures { NextRead F.Fn read (lines_left self.old) result (lines_left self.new) }
+        ensures read { NextRead F.Fn read (lines_left self.old) result (lines_left self.new) }
+        ensures left { OneFewer self.old.left result self.new.left }
     {
         let left = self.left.checked_sub(1)?;
         self.left = 0;

@@ -5,4 +5,4 @@ use Rattle.portfolio.proofs.file.PostsIterator.next.Goals as goal
 
 pub returns-in_err-balance-clause-steps : goal.returns-in_err-balance-clause-steps
 returns-in_err-balance-clause-steps c =
-    rw c.from_residual-in_err-balance.ensures (post-none _ _ _ _ (value-next _ _ balance_of (λ line r gave. search rules) _ _ _ c.in_err-balance.ensures))
+    rw c.from_residual-in_err-balance.ensures (post-none _ _ _ _ (value-next _ _ balance_of (λ line r gave. search rules) _ _ _ c.in_err-balance.ensures.read), tt)
