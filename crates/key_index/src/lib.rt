@@ -1,0 +1,42 @@
+// Where each key stands in a list of keys: found without looking through the others.
+#![tactic(auto)]
+
+ghost use Rattle.std.specs.Prelude.{◌≡◌, ◌<◌, ◌%◌, length, vec_items};
+ghost use Rattle.fixed_tables.specs.Tables.{rows_in};
+ghost use Rattle.key_index.specs.Buckets.{bucket_of, bucket_count, Chained, FirstsOf, LastsOf};
+
+use fixed_tables::Table;
+
+mod finding;
+mod pushing;
+#[cfg(test)]
+mod tests;
+
+// Keys of one bucket are chained in their order.
+const BUCKETS: usize = 256;
+
+// A key, and the place of the next one of its bucket.
+#[derive(Clone, Copy)]
+struct Link {
+    key: u64,
+    next: Option<usize>,
+}
+
+// A list of at most MOST keys, with room for all of them: only making it wants memory.
+#[derive(Drop)]
+pub struct KeyIndex<const MOST: usize> {
+    links: Table<Link, MOST>,
+    firsts: [Option<usize>; BUCKETS],
+    lasts: [Option<usize>; BUCKETS],
+    ghost chained: { Chained (rows_in links) },
+    ghost begun: { FirstsOf (rows_in links) firsts },
+    ghost ended: { LastsOf (rows_in links) lasts },
+}
+
+// The bucket of a key.
+fn bucket_of(key: u64) -> usize
+    ensures value { result ≡ bucket_of key }
+    ensures within { result < bucket_count }
+{
+    (key % BUCKETS as u64) as usize
+}
