@@ -1,11 +1,14 @@
 -- Along a chain: the key that is looked for is found, and each step goes on to a later place.
 use Rattle.std.proofs.Common.{◌≡◌, ℕ, suc, ◌+◌, ◌-◌, ◌<◌, Bool, true, false, eqb, List, [], ◌∷◌, length, get_or, drop, Some, None, Option, sym, refl, ap, ◌∙◌, arith}
 use Rattle.std.proofs.lemmas.List.{length-map, get_or-map, get_or-drop, length-drop, drop_more}
-use Rattle.std.proofs.lemmas.Bool.{eq-eqb, eqb-true, ne_eqb, cond-true, cond-false, true≢false}
+use Rattle.std.proofs.lemmas.Bool.{eq-eqb, eqb-true, ne_eqb, cond-true, cond-false}
 use Rattle.std.proofs.lemmas.Option.{none-some, same_Some}
 use Rattle.key_index.specs.Buckets.{bucket_of, is_in, keys_of, link_at, Chained}
 use Rattle.key_index.specs.Chains.{InChain, found_from}
-use Rattle.key_index.specs.Places.{first_from, first_place, again_from, next_place}
+use Rattle.std.specs.List.{position_from}
+use Rattle.std.proofs.lemmas.Iterator.Adapters.{position_from-zero}
+use Rattle.key_index.proofs.Firsts.{first-here, first-past, seen_from, wider-first}
+use Rattle.key_index.specs.Places.{first_place, again_from, next_place}
 use Rattle.key_index.specs.declared.Link.{Link}
 
 -- ---- the first place that passes a test
@@ -17,60 +20,34 @@ pub record Stands (test : ℕ → Bool) (n : ℕ) (ks : List ℕ) (p : ℕ) : Ty
   pub within : offset < length ks
   pub passes : test (get_or ks offset 0) ≡ true
 
-pub first-stands : (test : ℕ → Bool) (n : ℕ) (ks : List ℕ) (p : ℕ) → first_from test n ks ≡ Some p → Stands test n ks p
-unfolding first_from
+pub first-stands : (test : ℕ → Bool) (n : ℕ) (ks : List ℕ) (p : ℕ) → position_from test n ks ≡ Some p → Stands test n ks p
 first-stands test n [] p e = absurd (none-some p e)
 first-stands test n (k ∷ ks) p e = by (test k) refl (first-stands test (n + 1) ks p)
   where
-    by : (t : Bool) → test k ≡ t → (first_from test (n + 1) ks ≡ Some p → Stands test (n + 1) ks p) → Stands test n (k ∷ ks) p
+    by : (t : Bool) → test k ≡ t → (position_from test (n + 1) ks ≡ Some p → Stands test (n + 1) ks p) → Stands test n (k ∷ ks) p
     by true passes further = record { offset = 0; at = omega (arith, same_Some p n (sym e ∙ cond-true (test k) _ _ passes)); within = omega arith; passes = passes }
     by false fails further =
-        let rest = further (sym (cond-false (test k) (Some n) (first_from test (n + 1) ks) fails) ∙ e) in
+        let rest = further (sym (cond-false (test k) (Some n) (position_from test (n + 1) ks) fails) ∙ e) in
         record { offset = suc rest.offset; at = omega (arith, rest.at); within = omega (arith, rest.within); passes = rest.passes }
-
-pub first-here : (test : ℕ → Bool) (n k : ℕ) (ks : List ℕ) → test k ≡ true → first_from test n (k ∷ ks) ≡ Some n
-unfolding first_from
-first-here test n k ks e = cond-true (test k) (Some n) (first_from test (n + 1) ks) e
-
-pub first-past : (test : ℕ → Bool) (n k : ℕ) (ks : List ℕ) → test k ≡ false → first_from test n (k ∷ ks) ≡ first_from test (n + 1) ks
-unfolding first_from
-first-past test n k ks e = cond-false (test k) (Some n) (first_from test (n + 1) ks) e
 
 -- ---- a key lies in its own bucket
 
 same-bucket : (k key : ℕ) → eqb k key ≡ true → is_in (bucket_of key) k ≡ true
 same-bucket k key e = eq-eqb (bucket_of k) (bucket_of key) (ap bucket_of (eqb-true k key e))
 
-other-key : (k key : ℕ) → is_in (bucket_of key) k ≡ false → eqb k key ≡ false
-other-key k key e = by (eqb k key) refl
-  where
-    by : (t : Bool) → eqb k key ≡ t → eqb k key ≡ false
-    by true same = absurd (true≢false (sym (same-bucket k key same) ∙ e))
-    by false differs = differs
-
-rest-after : (keys : List ℕ) (n k : ℕ) (ks : List ℕ) → drop n keys ≡ k ∷ ks → drop (n + 1) keys ≡ ks
-rest-after keys n k ks e =
-    let h : n < length keys = omega (arith, ap length e, length-drop n keys) in
-    ap (drop 1) (sym (drop_more keys n 0 h) ∙ e)
-
 -- so in its chain it is found as in the list
-pub chain-finds : (key : ℕ) (keys : List ℕ) (n : ℕ) (ks : List ℕ) → drop n keys ≡ ks → found_from key keys (first_from (is_in (bucket_of key)) n ks) ≡ first_from (λ k. eqb k key) n ks
-unfolding first_from
-chain-finds key keys n [] e = refl
-chain-finds key keys n (k ∷ ks) e = by (is_in (bucket_of key) k) refl (chain-finds key keys (n + 1) ks (rest-after keys n k ks e))
+pub chain-finds : (key : ℕ) (keys : List ℕ) (n : ℕ) (ks : List ℕ) → drop n keys ≡ ks → found_from key keys (position_from (is_in (bucket_of key)) n ks) ≡ position_from (λ k. eqb k key) n ks
+chain-finds key keys n ks e = seen (position_from (is_in (bucket_of key)) n ks) ∙ wider-first (λ k. eqb k key) (is_in (bucket_of key)) (λ k. same-bucket k key) keys n ks e
   where
-    by : (t : Bool) → is_in (bucket_of key) k ≡ t → found_from key keys (first_from (is_in (bucket_of key)) (n + 1) ks) ≡ first_from (λ k. eqb k key) (n + 1) ks → found_from key keys (first_from (is_in (bucket_of key)) n (k ∷ ks)) ≡ first_from (λ k. eqb k key) n (k ∷ ks)
-    by true passes further = ap (found_from key keys) (first-here (is_in (bucket_of key)) n k ks passes) ∙ ap (first_from (λ l. eqb l key) n) e
-    by false fails further =
-        ap (found_from key keys) (first-past (is_in (bucket_of key)) n k ks fails)
-        ∙ further
-        ∙ sym (first-past (λ l. eqb l key) n k ks (other-key k key fails))
+    seen : (o : Option ℕ) → found_from key keys o ≡ seen_from (λ k. eqb k key) keys o
+    seen None = refl
+    seen (Some at) = refl
 
 -- a place found among the keys from place n on, among all keys
-pub in-chain : (key : ℕ) (keys : List ℕ) (n : ℕ) → InChain key keys (first_from (is_in (bucket_of key)) n (drop n keys))
-in-chain key keys n = by (first_from (is_in (bucket_of key)) n (drop n keys)) refl
+pub in-chain : (key : ℕ) (keys : List ℕ) (n : ℕ) → InChain key keys (position_from (is_in (bucket_of key)) n (drop n keys))
+in-chain key keys n = by (position_from (is_in (bucket_of key)) n (drop n keys)) refl
   where
-    by : (o : Option ℕ) → first_from (is_in (bucket_of key)) n (drop n keys) ≡ o → InChain key keys o
+    by : (o : Option ℕ) → position_from (is_in (bucket_of key)) n (drop n keys) ≡ o → InChain key keys o
     by None e = tt
     by (Some p) e =
         let stands = first-stands (is_in (bucket_of key)) n (drop n keys) p e in
@@ -96,7 +73,7 @@ module _ (links : List Link) (chained : Chained links) (at : ℕ) (h : at < leng
   next-in-chain = rw (chained at h) (in-chain link.key keys (at + 1))
 
   -- looking on from here for the same key
-  pub next-finds : found_from link.key keys link.next ≡ first_from (λ k. eqb k link.key) (at + 1) (drop (at + 1) keys)
+  pub next-finds : found_from link.key keys link.next ≡ position_from (λ k. eqb k link.key) (at + 1) (drop (at + 1) keys)
   next-finds = ap (found_from link.key keys) (chained at h) ∙ chain-finds link.key keys (at + 1) (drop (at + 1) keys) refl
 
   -- so it gives where the key stands next
@@ -136,18 +113,18 @@ module _ (key : ℕ) (links : List Link) (chained : Chained links) (from : Optio
   pub found-here : here.key ≡ key → Some at ≡ found_from key (keys_of links) from
   found-here e =
       sym (first-here (λ k. eqb k key) at here.key ahead (eq-eqb here.key key e))
-      ∙ ap (first_from (λ k. eqb k key) at) (sym (keys-at links chained at place-within))
+      ∙ ap (position_from (λ k. eqb k key) at) (sym (keys-at links chained at place-within))
       ∙ looking.same
 
   pub look-on : (here.key ≡ key → ⊥) → Looking key links from here.next
   look-on other =
-      let on : here.next ≡ first_from (is_in (bucket_of key)) (at + 1) ahead = chained at place-within ∙ ap (λ b. first_from (is_in b) (at + 1) ahead) same-chain in
+      let on : here.next ≡ position_from (is_in (bucket_of key)) (at + 1) ahead = chained at place-within ∙ ap (λ b. position_from (is_in b) (at + 1) ahead) same-chain in
       record {
         same =
             ap (found_from key (keys_of links)) on
             ∙ chain-finds key (keys_of links) (at + 1) ahead refl
             ∙ sym (first-past (λ k. eqb k key) at here.key ahead (ne_eqb here.key key other))
-            ∙ ap (first_from (λ k. eqb k key) at) (sym (keys-at links chained at place-within))
+            ∙ ap (position_from (λ k. eqb k key) at) (sym (keys-at links chained at place-within))
             ∙ looking.same;
         in_chain = rw on (in-chain key (keys_of links) (at + 1));
       }
@@ -160,9 +137,9 @@ module _ (key : ℕ) (links : List Link) (chained : Chained links) (from : Optio
       by (Some p) e = omega (arith, place-within, next-later links chained at place-within p e)
 
 -- from the first key of its bucket on, a key is looked for in the whole list
-module _ (key : ℕ) (keys : List ℕ) (from : Option ℕ) (first : from ≡ first_from (is_in (bucket_of key)) 0 keys) where
+module _ (key : ℕ) (keys : List ℕ) (from : Option ℕ) (first : from ≡ position_from (is_in (bucket_of key)) 0 keys) where
   pub start-in-chain : InChain key keys from
   start-in-chain = rw first (in-chain key keys 0)
 
   pub start-finds : found_from key keys from ≡ first_place key keys
-  start-finds = ap (found_from key keys) first ∙ chain-finds key keys 0 keys refl
+  start-finds = ap (found_from key keys) first ∙ chain-finds key keys 0 keys refl ∙ sym (position_from-zero (λ k. eqb k key) keys)

@@ -6,9 +6,9 @@ use Rattle.std.proofs.lemmas.Bool.{eq-eqb, eqb-true, ne_eqb, cond-true, cond-fal
 use Rattle.std.proofs.lemmas.Option.{none-some, same_Some}
 use Rattle.std.specs.Option.{option_or}
 use Rattle.key_index.specs.Buckets.{bucket_count, bucket_of, is_in, keys_of, link_at, Chained, later, last_in, FirstsOf, LastsOf, led_on}
-use Rattle.key_index.specs.Places.{first_from}
+use Rattle.std.specs.List.{position_from}
 use Rattle.key_index.specs.declared.Link.{Link}
-use Rattle.key_index.proofs.Chains.{first-here}
+use Rattle.key_index.proofs.Firsts.{first-here}
 
 or_none : (o : Option ℕ) → option_or o None ≡ o
 or_none None = refl
@@ -16,35 +16,32 @@ or_none (Some p) = refl
 
 -- ---- the first place that passes a test
 
-pub first-push : (test : ℕ → Bool) (n : ℕ) (ks : List ℕ) (k : ℕ) → first_from test n (ks ++ k ∷ []) ≡ option_or (first_from test n ks) (cond (test k) (Some (n + length ks)) None)
-unfolding first_from
+pub first-push : (test : ℕ → Bool) (n : ℕ) (ks : List ℕ) (k : ℕ) → position_from test n (ks ++ k ∷ []) ≡ option_or (position_from test n ks) (cond (test k) (Some (n + length ks)) None)
 first-push test n [] k =
     let e : n ≡ n + 0 = omega arith in
     ap (λ m. cond (test k) (Some m) None) e
 first-push test n (x ∷ ks) k = by (test x) (first-push test (n + 1) ks k)
   where
-    by : (t : Bool) → first_from test (n + 1) (ks ++ k ∷ []) ≡ option_or (first_from test (n + 1) ks) (cond (test k) (Some (n + 1 + length ks)) None)
-        → cond t (Some n) (first_from test (n + 1) (ks ++ k ∷ [])) ≡ option_or (cond t (Some n) (first_from test (n + 1) ks)) (cond (test k) (Some (n + suc (length ks))) None)
+    by : (t : Bool) → position_from test (n + 1) (ks ++ k ∷ []) ≡ option_or (position_from test (n + 1) ks) (cond (test k) (Some (n + 1 + length ks)) None)
+        → cond t (Some n) (position_from test (n + 1) (ks ++ k ∷ [])) ≡ option_or (cond t (Some n) (position_from test (n + 1) ks)) (cond (test k) (Some (n + suc (length ks))) None)
     by true further = refl
     by false further =
         let e : n + 1 + length ks ≡ n + suc (length ks) = omega arith in
-        further ∙ ap (λ m. option_or (first_from test (n + 1) ks) (cond (test k) (Some m) None)) e
+        further ∙ ap (λ m. option_or (position_from test (n + 1) ks) (cond (test k) (Some m) None)) e
 
-pub first-none : (test : ℕ → Bool) (n : ℕ) (ks : List ℕ) → ((i : ℕ) → i < length ks → test (get_or ks i 0) ≡ false) → first_from test n ks ≡ None
-unfolding first_from
+pub first-none : (test : ℕ → Bool) (n : ℕ) (ks : List ℕ) → ((i : ℕ) → i < length ks → test (get_or ks i 0) ≡ false) → position_from test n ks ≡ None
 first-none test n [] fails = refl
-first-none test n (k ∷ ks) fails = cond-false (test k) (Some n) (first_from test (n + 1) ks) (fails 0 (omega arith)) ∙ first-none test (n + 1) ks (λ i h. fails (suc i) (omega (arith, h)))
+first-none test n (k ∷ ks) fails = cond-false (test k) (Some n) (position_from test (n + 1) ks) (fails 0 (omega arith)) ∙ first-none test (n + 1) ks (λ i h. fails (suc i) (omega (arith, h)))
 
 -- where one passes, another is never taken in its place
-pub first-kept : (test : ℕ → Bool) (n : ℕ) (ks : List ℕ) (i : ℕ) → i < length ks → test (get_or ks i 0) ≡ true → (o : Option ℕ) → option_or (first_from test n ks) o ≡ first_from test n ks
-unfolding first_from
+pub first-kept : (test : ℕ → Bool) (n : ℕ) (ks : List ℕ) (i : ℕ) → i < length ks → test (get_or ks i 0) ≡ true → (o : Option ℕ) → option_or (position_from test n ks) o ≡ position_from test n ks
 first-kept test n [] i h passes o = absurd (omega arith)
 first-kept test n (k ∷ ks) zero h passes o =
-    let here : first_from test n (k ∷ ks) ≡ Some n = first-here test n k ks passes in
+    let here : position_from test n (k ∷ ks) ≡ Some n = first-here test n k ks passes in
     ap (λ f. option_or f o) here ∙ sym here
 first-kept test n (k ∷ ks) (suc i) h passes o = by (test k) (first-kept test (n + 1) ks i (omega (arith, h)) passes o)
   where
-    by : (t : Bool) → option_or (first_from test (n + 1) ks) o ≡ first_from test (n + 1) ks → option_or (cond t (Some n) (first_from test (n + 1) ks)) o ≡ cond t (Some n) (first_from test (n + 1) ks)
+    by : (t : Bool) → option_or (position_from test (n + 1) ks) o ≡ position_from test (n + 1) ks → option_or (cond t (Some n) (position_from test (n + 1) ks)) o ≡ cond t (Some n) (position_from test (n + 1) ks)
     by true further = refl
     by false further = further
 
@@ -167,19 +164,19 @@ module _ (links : List Link) (chained : Chained links) (key : ℕ) where
     ahead-long : i + 1 + length ahead ≡ length links
     ahead-long = omega (arith, h, length-drop (i + 1) keys, length-map links (λ l. l.key))
 
-    first-grown : first_from test (i + 1) (drop (i + 1) (keys ++ key ∷ [])) ≡ option_or (first_from test (i + 1) ahead) (cond (test key) (Some (length links)) None)
+    first-grown : position_from test (i + 1) (drop (i + 1) (keys ++ key ∷ [])) ≡ option_or (position_from test (i + 1) ahead) (cond (test key) (Some (length links)) None)
     first-grown =
-        ap (first_from test (i + 1)) ahead-grown
+        ap (position_from test (i + 1)) ahead-grown
         ∙ first-push test (i + 1) ahead key
-        ∙ ap (λ n. option_or (first_from test (i + 1) ahead) (cond (test key) (Some n) None)) ahead-long
+        ∙ ap (λ n. option_or (position_from test (i + 1) ahead) (cond (test key) (Some n) None)) ahead-long
 
     -- a link of another bucket, or before another key of this bucket, stays
-    stays : ((test key ≡ true → option_or (first_from test (i + 1) ahead) (Some (length links)) ≡ first_from test (i + 1) ahead)) → (link_at links i).next ≡ first_from test (i + 1) (drop (i + 1) (keys ++ key ∷ []))
+    stays : ((test key ≡ true → option_or (position_from test (i + 1) ahead) (Some (length links)) ≡ position_from test (i + 1) ahead)) → (link_at links i).next ≡ position_from test (i + 1) (drop (i + 1) (keys ++ key ∷ []))
     stays same = chained i h ∙ sym (first-grown ∙ by (test key) refl)
       where
-        by : (t : Bool) → test key ≡ t → option_or (first_from test (i + 1) ahead) (cond t (Some (length links)) None) ≡ first_from test (i + 1) ahead
+        by : (t : Bool) → test key ≡ t → option_or (position_from test (i + 1) ahead) (cond t (Some (length links)) None) ≡ position_from test (i + 1) ahead
         by true e = same e
-        by false e = or_none (first_from test (i + 1) ahead)
+        by false e = or_none (position_from test (i + 1) ahead)
 
   other-bucket : (i : ℕ) (h : i < length links) → is_in bucket (get_or keys i 0) ≡ false → is_in (bucket_of (link_at links i).key) key ≡ true → ⊥
   other-bucket i h outside e =
@@ -190,22 +187,22 @@ module _ (links : List Link) (chained : Chained links) (key : ℕ) where
   own-bucket i h e = sym (ap bucket_of (key-here i h)) ∙ eqb-true (bucket_of (get_or keys i 0)) bucket e
 
   -- the last link of the bucket leads on to the new key
-  last-link : (l : ℕ) (h : l < length links) → IsLast bucket keys l → Some (length links) ≡ first_from (is_in (bucket_of (link_at links l).key)) (l + 1) (drop (l + 1) (keys ++ key ∷ []))
+  last-link : (l : ℕ) (h : l < length links) → IsLast bucket keys l → Some (length links) ≡ position_from (is_in (bucket_of (link_at links l).key)) (l + 1) (drop (l + 1) (keys ++ key ∷ []))
   last-link l h last = sym (
       first-grown l h
-      ∙ ap (λ b. option_or (first_from (is_in b) (l + 1) (ahead l h)) (cond (is_in b key) (Some (length links)) None)) (own-bucket l h last.has)
+      ∙ ap (λ b. option_or (position_from (is_in b) (l + 1) (ahead l h)) (cond (is_in b key) (Some (length links)) None)) (own-bucket l h last.has)
       ∙ ap (λ o. option_or o (cond (is_in bucket key) (Some (length links)) None)) nothing
       ∙ cond-true (is_in bucket key) (Some (length links)) None (eq-eqb bucket bucket refl)
       )
     where
-      nothing : first_from (is_in bucket) (l + 1) (ahead l h) ≡ None
+      nothing : position_from (is_in bucket) (l + 1) (ahead l h) ≡ None
       nothing = first-none (is_in bucket) (l + 1) (ahead l h) (λ j within.
           ap (is_in bucket) (get_or-drop (l + 1) keys j 0)
           ∙ last.none_after (l + 1 + j) (omega arith) (omega (arith, within, length-drop (l + 1) keys)))
 
   -- an earlier link of the bucket leads on to an earlier key
   earlier-link : (l : ℕ) → IsLast bucket keys l → (i : ℕ) (h : i < length links) → (i ≡ l → ⊥) → is_in (bucket_of (link_at links i).key) key ≡ true
-      → option_or (first_from (is_in (bucket_of (link_at links i).key)) (i + 1) (ahead i h)) (Some (length links)) ≡ first_from (is_in (bucket_of (link_at links i).key)) (i + 1) (ahead i h)
+      → option_or (position_from (is_in (bucket_of (link_at links i).key)) (i + 1) (ahead i h)) (Some (length links)) ≡ position_from (is_in (bucket_of (link_at links i).key)) (i + 1) (ahead i h)
   earlier-link l last i h other e =
       let same : bucket ≡ bucket_of (link_at links i).key = eqb-true bucket (bucket_of (link_at links i).key) e in
       let has : is_in bucket (get_or keys i 0) ≡ true = eq-eqb (bucket_of (get_or keys i 0)) bucket (ap bucket_of (key-here i h) ∙ sym same) in
@@ -221,7 +218,7 @@ module _ (links : List Link) (chained : Chained links) (key : ℕ) where
       past-other l i past other = ⊎_elim (λ h. h) (λ h. absurd (other (omega (arith, h, past)))) (cases_lt l i)
 
   -- what a link of the old list says, whatever the last place of the bucket is
-  old-link : (o : Option ℕ) → last_in bucket keys ≡ o → (i : ℕ) (h : i < length links) → (link_at (led_on o (length links) links) i).next ≡ first_from (is_in (bucket_of (link_at links i).key)) (i + 1) (drop (i + 1) (keys ++ key ∷ []))
+  old-link : (o : Option ℕ) → last_in bucket keys ≡ o → (i : ℕ) (h : i < length links) → (link_at (led_on o (length links) links) i).next ≡ position_from (is_in (bucket_of (link_at links i).key)) (i + 1) (drop (i + 1) (keys ++ key ∷ []))
   old-link None is i h =
       stays i h (λ e. absurd (other-bucket i h (last-none bucket keys is i (omega (arith, h, length-map links (λ l. l.key)))) e))
   old-link (Some l) is i h =
@@ -239,41 +236,40 @@ module _ (links : List Link) (chained : Chained links) (key : ℕ) where
       ∙ get_or-map (λ l. l.key) links i (record { key = 0; next = None })
 
   pub chained-grown : (o : Option ℕ) → last_in bucket keys ≡ o → Chained (grown o)
-  unfolding first_from
   chained-grown o is i h =
       ⊎_elim
       (λ old. let link = get_or_append_left (led_on o (length links) links) (new ∷ []) (record { key = 0; next = None }) i (omega (arith, old, length-led_on o (length links) links)) in
       ap (λ l. l.next) link
       ∙ old-link o is i old
-      ∙ ap (λ k. first_from (is_in (bucket_of k)) (i + 1) (drop (i + 1) (keys ++ key ∷ []))) (sym (ap (λ l. l.key) link ∙ key-old o i))
-      ∙ ap (λ ks. first_from (is_in (bucket_of (link_at (grown o) i).key)) (i + 1) (drop (i + 1) ks)) (sym (keys-grown o)))
+      ∙ ap (λ k. position_from (is_in (bucket_of k)) (i + 1) (drop (i + 1) (keys ++ key ∷ []))) (sym (ap (λ l. l.key) link ∙ key-old o i))
+      ∙ ap (λ ks. position_from (is_in (bucket_of (link_at (grown o) i).key)) (i + 1) (drop (i + 1) ks)) (sym (keys-grown o)))
       (λ end. let long : length (grown o) ≡ length links + 1 = length_push (led_on o (length links) links) new ∙ ap (λ n. n + 1) (length-led_on o (length links) links) in
       let link = get_or_push (led_on o (length links) links) new (record { key = 0; next = None }) i (omega (arith, end, h, long, length-led_on o (length links) links)) in
       ap (λ l. l.next) link
-      ∙ sym (ap (first_from (is_in (bucket_of (link_at (grown o) i).key)) (i + 1)) (drop_of_length-le (keys_of (grown o)) {i = i + 1} (omega (arith, end, long, length-map (grown o) (λ l. l.key))))))
+      ∙ sym (ap (position_from (is_in (bucket_of (link_at (grown o) i).key)) (i + 1)) (drop_of_length-le (keys_of (grown o)) {i = i + 1} (omega (arith, end, long, length-map (grown o) (λ l. l.key))))))
       (cases_lt i (length links))
 
   module _ (o : Option ℕ) (within : bucket < bucket_count) where
     pub firsts-grown : (firsts : List (Option ℕ)) → FirstsOf links firsts → FirstsOf (grown o) (set firsts bucket (option_or (get_or firsts bucket None) (Some (length links))))
-    firsts-grown firsts old = (length-set firsts bucket _ ∙ old.0, λ b h. now b h ∙ sym (ap (first_from (is_in b) 0) (keys-grown o) ∙ first-push (is_in b) 0 keys key))
+    firsts-grown firsts old = (length-set firsts bucket _ ∙ old.0, λ b h. now b h ∙ sym (ap (position_from (is_in b) 0) (keys-grown o) ∙ first-push (is_in b) 0 keys key))
       where
-        own : first_from (is_in bucket) 0 keys ≡ get_or firsts bucket None
+        own : position_from (is_in bucket) 0 keys ≡ get_or firsts bucket None
         own = sym (old.1 bucket within)
 
         end : 0 + length keys ≡ length links
         end = omega (arith, length-map links (λ l. l.key))
 
-        now : (b : ℕ) → b < bucket_count → get_or (set firsts bucket (option_or (get_or firsts bucket None) (Some (length links)))) b None ≡ option_or (first_from (is_in b) 0 keys) (cond (is_in b key) (Some (0 + length keys)) None)
+        now : (b : ℕ) → b < bucket_count → get_or (set firsts bucket (option_or (get_or firsts bucket None) (Some (length links)))) b None ≡ option_or (position_from (is_in b) 0 keys) (cond (is_in b key) (Some (0 + length keys)) None)
         now b h =
             ⊎_elim
             (λ same. rw same (
             get_or-set_same firsts bucket _ None (omega (arith, within, old.0))
             ∙ ap (λ f. option_or f (Some (length links))) (sym own)
-            ∙ ap (option_or (first_from (is_in bucket) 0 keys)) (ap Some (sym end) ∙ sym (cond-true (is_in bucket key) (Some (0 + length keys)) None (eq-eqb bucket bucket refl)))))
+            ∙ ap (option_or (position_from (is_in bucket) 0 keys)) (ap Some (sym end) ∙ sym (cond-true (is_in bucket key) (Some (0 + length keys)) None (eq-eqb bucket bucket refl)))))
             (λ other. get_or-set_other firsts bucket b _ None other
             ∙ old.1 b h
-            ∙ sym (or_none (first_from (is_in b) 0 keys))
-            ∙ ap (option_or (first_from (is_in b) 0 keys)) (sym (cond-false (is_in b key) (Some (0 + length keys)) None (ne_eqb bucket b (λ e. other (sym e))))))
+            ∙ sym (or_none (position_from (is_in b) 0 keys))
+            ∙ ap (option_or (position_from (is_in b) 0 keys)) (sym (cond-false (is_in b key) (Some (0 + length keys)) None (ne_eqb bucket b (λ e. other (sym e))))))
             (cases_eq b bucket)
 
     pub lasts-grown : (lasts : List (Option ℕ)) → LastsOf links lasts → LastsOf (grown o) (set lasts bucket (Some (length links)))

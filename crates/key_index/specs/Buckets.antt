@@ -1,6 +1,6 @@
 -- Buckets: keys with the same remainder, chained in their order.
 use Rattle.std.specs.Prelude.{◌≡◌, ℕ, suc, ◌+◌, ◌%◌, ◌<◌, Bool, cond, List, [], ◌∷◌, map, length, drop, Some, None, Option, ◌==◌, slice_index_or, slice_set}
-use Rattle.key_index.specs.Places.{first_from}
+use Rattle.std.specs.List.{position_from}
 use Rattle.key_index.specs.declared.Link.{Link}
 
 abbrev pub bucket_count : ℕ
@@ -21,7 +21,7 @@ link_at links i = slice_index_or links i (record { key = 0; next = None })
 
 -- each link tells where the next key of its bucket stands
 abbrev pub Chained : List Link → Type 0
-Chained links = (i : ℕ) → i < length links → (link_at links i).next ≡ first_from (is_in (bucket_of (link_at links i).key)) (i + 1) (drop (i + 1) (keys_of links))
+Chained links = (i : ℕ) → i < length links → (link_at links i).next ≡ position_from (is_in (bucket_of (link_at links i).key)) (i + 1) (drop (i + 1) (keys_of links))
 
 -- the place of the last key of bucket b
 abbrev pub later : Option ℕ → Option ℕ → Option ℕ
@@ -34,7 +34,7 @@ last_in b (k ∷ ks) = later (last_in b ks) (cond (is_in b k) (Some 0) None)
 
 -- of each bucket, the places of its first and its last key
 abbrev pub FirstsOf : List Link → List (Option ℕ) → Type 0
-FirstsOf links firsts = (length firsts ≡ bucket_count) × ((b : ℕ) → b < bucket_count → slice_index_or firsts b None ≡ first_from (is_in b) 0 (keys_of links))
+FirstsOf links firsts = (length firsts ≡ bucket_count) × ((b : ℕ) → b < bucket_count → slice_index_or firsts b None ≡ position_from (is_in b) 0 (keys_of links))
 
 abbrev pub LastsOf : List Link → List (Option ℕ) → Type 0
 LastsOf links lasts = (length lasts ≡ bucket_count) × ((b : ℕ) → b < bucket_count → slice_index_or lasts b None ≡ last_in b (keys_of links))

@@ -1,7 +1,7 @@
 -- Looking for a key along the chain of its bucket.
 use Rattle.std.specs.Prelude.{◌≡◌, ℕ, ◌<◌, List, length, drop, get_or, Some, None, Option, IfSome, ◌==◌}
 use Rattle.key_index.specs.Buckets.{bucket_of}
-use Rattle.key_index.specs.Places.{first_from}
+use Rattle.std.specs.List.{position_from}
 
 -- a place, if there is one, holds a key of this key's bucket
 abbrev pub InChain : ℕ → List ℕ → Option ℕ → Type 0
@@ -10,4 +10,4 @@ InChain key keys from = IfSome from (λ at. (at < length keys) × (bucket_of (ge
 -- where a key stands first from such a place on
 abbrev pub found_from : ℕ → List ℕ → Option ℕ → Option ℕ
 found_from key keys None = None
-found_from key keys (Some at) = first_from (λ k. k == key) at (drop at keys)
+found_from key keys (Some at) = position_from (λ k. k == key) at (drop at keys)

@@ -4,3 +4,5 @@ pub mod Sums
 pub mod Posts
 pub mod Walks
 pub mod Turns
+pub mod Following
+pub mod Seeking

@@ -1,8 +1,7 @@
 -- Finding a row and changing it, by its place.
-use Rattle.std.proofs.Common.{◌≡◌, ℕ, zero, suc, ◌<◌, ◌≤◌, Bool, true, false, cond, ltb, List, [], ◌∷◌, ◌++◌, map, length, get_or, set, is_some, Some, None, Option, OnSome, IsSome, ◌↔◌, is_ok, Ok, Err, Result, sym, refl, ap, ◌∙◌, ⊎_elim, arith}
+use Rattle.std.proofs.Common.{◌≡◌, ℕ, zero, suc, ◌<◌, ◌≤◌, Bool, true, false, cond, ltb, List, [], ◌∷◌, ◌++◌, map, length, get_or, set, is_some, Some, None, is_ok, Ok, Err, Result, sym, refl, ap, ◌∙◌, ⊎_elim, arith}
 use Rattle.std.specs.List.{AllByRecursion}
 use Rattle.std.proofs.lemmas.List.{length-map, get_or-map, map-set, map_push}
-use Rattle.std.proofs.lemmas.Option.{none-some}
 use Rattle.std.proofs.lemmas.Bool.{lt-ltb, le-ltb, cond-true, cond-false, cases_lt}
 use Rattle.plain.specs.Lists.{first_of, change_first}
 use Rattle.plain.proofs.Lists.{place_of, first-at, first_past, change-at}
@@ -51,6 +50,13 @@ found_alike test (x ∷ xs) =
 module _ {X Y : Type 0} (view : X → Y) (test : Y → Bool) (xs : List X) (k : ℕ) (at : Some k ≡ first_place test (map view xs)) where
   pub row_within : k < length xs
   row_within = omega (arith, (place-of-some test (map view xs) k at).1, length-map xs view)
+
+  pub row-found : (d : X) → first_of test (map view xs) ≡ Some (view (get_or xs k d))
+  row-found d =
+      let place = place-of-some test (map view xs) k at in
+      first-at test (map view xs) (view d) (omega (arith, place.0, place.1))
+      ∙ ap (λ n. Some (get_or (map view xs) n (view d))) (sym place.0)
+      ∙ ap Some (get_or-map view xs k d (view d) row_within)
 
 -- ---- one change
 
@@ -103,17 +109,3 @@ added-view view false xs new x e r is told =
     ap (map view) is
     ∙ map_push view xs x
     ∙ sym (ap (λ s. cond (is_ok s) (map view xs ++ view x ∷ []) (map view xs)) told)
-
--- what a table lends: what holds where a row is lent, and that the place is past the end where none is
-pub lent-row : {X : Type 0} {P : Type 0} (o : Option X) (x : X) → o ≡ Some x → OnSome o P → P
-lent-row None x is p = absurd (none-some x is)
-lent-row (Some y) x is p = p
-
-pub lent-none : {X : Type 0} (o : Option X) (k n : ℕ) → o ≡ None → (IsSome o ↔ (k < n)) → n ≤ k
-lent-none None k n is there =
-    ⊎_elim
-    (λ h. let z : ◌≡◌ {A = ℕ} 0 1 = ap (λ b. cond b 1 0) (there.1 h) in
-    absurd (omega arith))
-    (λ h. h)
-    (cases_lt k n)
-lent-none (Some y) k n is there = absurd (none-some y (sym is))

@@ -14,7 +14,8 @@ use Rattle.positions.specs.Rows.{plain_position, plain_positions}
 use Rattle.positions.specs.declared.PositionRow.{PositionRow}
 use Rattle.positions.specs.declared.lending.Turn.{Turn}
 use Rattle.plain.proofs.BranchOrder.{branches-long, branch-at}
-use Rattle.positions.proofs.Walks.{rows_on, on-view, lent_in, next_lent}
+use Rattle.positions.specs.Rows.{rows_on}
+use Rattle.positions.proofs.Walks.{on-view, lent_in, next_lent}
 
 abbrev or_else : Option Turn → Option Turn → Option Turn
 or_else (Some t) o = Some t

@@ -1,49 +1,39 @@
 -- A walk over the rows on one investee: what they add up to, and the turn of a branch among them.
-use denote.Param.Members.{Mut}
-use Rattle.std.proofs.Common.{◌≡◌, ℕ, Bool, Bor, Iter, Option, Some, None, ◌+◌, ◌*◌, ◌^◌, ◌<◌, ◌≤◌, eqb, List, [], ◌∷◌, map, filter, length, get_or, take, drop, sum_by, sym, ap, ◌∙◌, arith, take_all}
+use Rattle.std.proofs.Common.{◌≡◌, ℕ, Bor, Option, Some, None, ◌+◌, ◌*◌, ◌^◌, ◌<◌, ◌≤◌, eqb, List, [], ◌∷◌, map, length, get_or, take, drop, sum_by, sym, ap, ◌∙◌, arith, take_all}
 use Rattle.std.proofs.lemmas.List.{at_drop_more, at_drop_all, length-map}
-use Rattle.std.specs.Fn.{CalledAt}
-use Rattle.std.specs.Iterator.{Yields}
-use Rattle.std.specs.Iterator.Adapters.{filter_source, filter_callee, filter_steps}
-use Rattle.std.specs.Slice.Iter.{iter_rest}
-use Rattle.std.specs.declared.iter.Filter.{Filter}
-use Rattle.std.proofs.iter.Yields.{fronts}
-use Rattle.std.proofs.lemmas.Iterator.{YieldsList, YieldsList-from_slice}
-use Rattle.std.proofs.lemmas.Iterator.Consumers.{YieldsList-at, YieldsList-from_filter, YieldsList-turn, YieldsList-end}
+use Rattle.std.specs.Iterator.{Yields, YieldsFirstRef}
+use Rattle.std.proofs.lemmas.Iterator.{YieldsList}
+use Rattle.std.proofs.lemmas.Iterator.Consumers.{YieldsList-at, YieldsList-from_first, YieldsList-turn, YieldsList-end}
 use Rattle.std.proofs.lemmas.Bool.{eq-eqb, ne_eqb, cond-true, cond-false}
 use Rattle.rules.specs.Months.{months}
 use Rattle.rules.specs.declared.kinds.Kind.{Kind}
 use Rattle.plain.specs.Exposures.{closing_of, exposure_of, positions_on, lent_by}
 use Rattle.plain.specs.Parts.{Lent, exposures, exposure_at, exposure_before}
 use Rattle.positions.specs.Lending.{lending_of, turn_of}
-use Rattle.positions.specs.Rows.{plain_position, plain_positions}
+use Rattle.positions.specs.Rows.{plain_position, plain_positions, rows_on}
+use Rattle.positions.specs.RowsOn.{rows_left}
 use Rattle.positions.specs.declared.PositionRow.{PositionRow}
 use Rattle.positions.specs.declared.lending.Lending.{Lending}
 use Rattle.positions.specs.declared.lending.Turn.{Turn}
+use Rattle.positions.specs.declared.rows_on.RowsOn.{RowsOn}
 use Rattle.positions.proofs.Sums.{sum-next, sum_view, exposures_summed}
 use Rattle.positions.proofs.Views.{filter-view}
-
--- the rows on the investee of an id
-abbrev pub rows_on : ℕ → List PositionRow → List PositionRow
-rows_on id rows = filter (λ row. eqb row.id id) rows
 
 pub on-view : (id : ℕ) (rows : List PositionRow) → plain_positions (rows_on id rows) ≡ positions_on id (plain_positions rows)
 on-view id rows = filter-view plain_position (λ q. eqb q.id id) rows
 
--- a chain that filters rows by their id, and where it stands in a `for` that has taken the items xs
-module _ {F : Type 0} {g : Mut F (Bor (Bor PositionRow) × Unit {0}) Bool} {s t : Filter (Iter PositionRow) F} {f : F} (id : ℕ) (rows : List PositionRow)
-    (same : s ≡ t) (rest : iter_rest (filter_source t) ≡ rows) (callee : filter_callee t ≡ f)
-    (test : (x : Bor PositionRow) (b : Bool) (q : F) → CalledAt g f x b q → (q ≡ f) × (b ≡ eqb x.now.id id))
-    (xs : List (Bor PositionRow)) (now : Filter (Iter PositionRow) F) (taken : Yields (filter_steps fronts g) s xs now) where
-  gives : YieldsList (filter_steps fronts g) (λ y. y.now) s (rows_on id rows)
-  gives = YieldsList-at same (YieldsList-from_filter g (λ row. eqb row.id id) (YieldsList-from_slice rows rest) callee test)
+-- a walk over the rows on an investee, and where it stands in a `for` that has taken the items xs
+module _ {s t : RowsOn} (id : ℕ) (rows : List PositionRow) (same : s ≡ t) (left : rows_left t ≡ rows_on id rows)
+    (xs : List (Bor PositionRow)) (now : RowsOn) (taken : Yields (YieldsFirstRef rows_left) s xs now) where
+  gives : YieldsList (YieldsFirstRef rows_left) (λ y. y.now) s (rows_on id rows)
+  gives = YieldsList-at same (YieldsList-from_first (λ y. y.now) rows_left (rows_on id rows) left)
 
   -- the next item is the next row on the investee
-  pub row-next : (r : Option (Bor PositionRow)) (u : Filter (Iter PositionRow) F) (x : Bor PositionRow) → r ≡ Some x → filter_steps fronts g now r u → (length xs < length (rows_on id rows)) × (x.now ≡ get_or (rows_on id rows) (length xs) x.now)
+  pub row-next : (r : Option (Bor PositionRow)) (u : RowsOn) (x : Bor PositionRow) → r ≡ Some x → YieldsFirstRef rows_left now r u → (length xs < length (rows_on id rows)) × (x.now ≡ get_or (rows_on id rows) (length xs) x.now)
   row-next r u x is step = YieldsList-turn gives xs now taken r u x is step
 
   -- at the end every row on the investee was taken
-  pub rows-end : (r : Option (Bor PositionRow)) (u : Filter (Iter PositionRow) F) → r ≡ None → filter_steps fronts g now r u → length xs ≡ length (rows_on id rows)
+  pub rows-end : (r : Option (Bor PositionRow)) (u : RowsOn) → r ≡ None → YieldsFirstRef rows_left now r u → length xs ≡ length (rows_on id rows)
   rows-end r u is step = (YieldsList-end gives xs now taken r u is step).1
 
 abbrev row_exposure : Kind → PositionRow → ℕ

@@ -12,6 +12,7 @@ ghost use Rattle.positions.specs.Years.{in_year};
 
 use crate::{PositionRow, Positions, in_year};
 use fixed_tables::Table;
+use key_index::KeyIndex;
 use plain::limits::full_of_positions;
 use std::alloc::{AllocError, Global};
 
@@ -21,28 +22,30 @@ impl Positions {
         ensures { IfOk result (λ t. positions_in t ≡ []) }
     {
         let rows = Table::new(heap)?;
-        Ok(Positions { rows })
+        let ids = KeyIndex::new(heap)?;
+        Ok(Positions { rows, ids })
     }
 
     // Where the position of a branch on the investee of an id stands: a row to change is lent by its place.
     fn place(&self, branch: u64, id: u64) -> Option<usize>
         ensures { result ≡ first_place (is_of branch id) (positions_in self.now) }
     {
-        self.rows
-            .as_slice()
-            .iter()
-            .position(|row| row.is_of(branch, id))
+        let mut next = self.ids.first(id);
+        // A `while let`, since the place is wanted and not the row.
+        while let Some(at) = next {
+            if self.rows.as_slice()[at].is_of_branch(branch) {
+                return Some(at);
+            }
+            next = self.ids.after(at);
+        }
+        None
     }
 
     // The position of a branch on the investee of an id.
     fn position(&self, branch: u64, id: u64) -> Option<PositionRow>
         ensures { option_map plain_position result ≡ position_of branch id (positions_in self.now) }
     {
-        self.rows
-            .as_slice()
-            .iter()
-            .find(|row| row.is_of(branch, id))
-            .copied()
+        Some(self.rows.as_slice()[self.place(branch, id)?])
     }
 
     // The balance of a month of a branch on the investee of an id, if it was posted.
@@ -73,7 +76,10 @@ impl Positions {
     {
         let mut row = PositionRow::new(branch, id);
         row.write(month, balance);
-        self.rows.push(row)
+        self.rows.push(row)?;
+        // There is room: as many rows as ids are held.
+        self.ids.push(u64::from(id)).unwrap();
+        Ok(())
     }
 
     // Writes the balance of one month of the position at a place, and touches no other.

@@ -36,17 +36,12 @@ fn note(turns: &mut [Option<Turn>], branch: u8, turn: Turn)
     }
 }
 
-// Four of these go over the rows on one investee by the same chain: a function cannot name its type, and an iterator of our
-// own would be longer than the chains.
 impl Positions {
     // The exposures to an investee, added up, without the other sums: it is asked at each post.
     pub fn exposure(&self, investee: Profile) -> u64
         ensures { result ≡ exposures (map (lent_by investee.kind) (positions_on investee.id (positions_in self.now))) }
     {
-        self.rows
-            .as_slice()
-            .iter()
-            .filter(|row| row.is_on(investee.id))
+        self.on(investee.id)
             .map(|row| row.exposure(investee.kind))
             .sum()
     }
@@ -57,12 +52,7 @@ impl Positions {
     {
         let mut lending = Lending::default();
         // One pass for three sums.
-        for row in self
-            .rows
-            .as_slice()
-            .iter()
-            .filter(|row| row.is_on(investee.id))
-        {
+        for row in self.on(investee.id) {
             lending.positions += 1;
             lending.exposure += row.exposure(investee.kind);
             lending.closing += row.closing();
@@ -76,12 +66,7 @@ impl Positions {
     {
         let mut before = 0;
         // A `for`: it adds up until it finds the branch, and gives both.
-        for row in self
-            .rows
-            .as_slice()
-            .iter()
-            .filter(|row| row.is_on(investee.id))
-        {
+        for row in self.on(investee.id) {
             let exposure = row.exposure(investee.kind);
             if row.is_of_branch(branch) {
                 return Turn { before, exposure };
@@ -101,12 +86,7 @@ impl Positions {
         let mut turns = [None; BRANCH_ROWS];
         let mut before = 0;
         // A `for`: each turn needs the sum of the exposures before it.
-        for row in self
-            .rows
-            .as_slice()
-            .iter()
-            .filter(|row| row.is_on(investee.id))
-        {
+        for row in self.on(investee.id) {
             let exposure = row.exposure(investee.kind);
             note(&mut turns, row.branch, Turn { before, exposure });
             before += exposure;

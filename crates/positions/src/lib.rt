@@ -6,17 +6,21 @@ ghost use Rattle.std.specs.Option.{unwrap_or};
 ghost use Rattle.rules.specs.Months.{months};
 ghost use Rattle.plain.specs.Exposures.{is_bond, closing_of, exposure_of};
 ghost use Rattle.plain.specs.PlainBook.{is_of, new_position, balance_of};
+ghost use Rattle.fixed_tables.specs.Tables.{rows_in};
+ghost use Rattle.key_index.specs.Keys.{keys_in};
 ghost use Rattle.positions.specs.Entries.{written};
-ghost use Rattle.positions.specs.Rows.{plain_position};
+ghost use Rattle.positions.specs.Rows.{plain_position, ids_of};
 ghost use Rattle.positions.specs.Years.{in_year};
 
 use fixed_tables::Table;
+use key_index::KeyIndex;
 use plain::limits::MOST_POSITIONS;
 use rules::MONTHS;
 use rules::kinds::Kind;
 
 mod entering;
 pub mod lending;
+mod rows_on;
 
 // A place for the balance of each month of the year.
 const YEAR: usize = MONTHS as usize;
@@ -29,10 +33,13 @@ struct PositionRow {
     balances: [Option<u32>; YEAR],
 }
 
-// A table of positions with room for all that a book can hold: only making it wants memory.
+// A table of positions with room for all that a book can hold: only making it wants memory. The positions on an investee are
+// found by its id.
 #[derive(Drop)]
 pub struct Positions {
     rows: Table<PositionRow, MOST_POSITIONS>,
+    ids: KeyIndex<MOST_POSITIONS>,
+    ghost indexed: { keys_in ids ≡ ids_of (rows_in rows) },
 }
 
 // Whether an investee of the kind has one balance in a year.
@@ -82,20 +89,6 @@ impl PositionRow {
         ensures { result ≡ (self.branch == branch) }
     {
         u64::from(self.branch) == branch
-    }
-
-    // Whether it is on the investee of an id.
-    fn is_on(self, id: u32) -> bool
-        ensures { result ≡ nat_eq self.id id }
-    {
-        self.id == id
-    }
-
-    // Whether it is that of a branch on the investee of an id.
-    fn is_of(self, branch: u64, id: u64) -> bool
-        ensures { result ≡ is_of branch id (plain_position self) }
-    {
-        self.is_of_branch(branch) && u64::from(self.id) == id
     }
 
     // The balance of a month, if the year has it and it was posted.

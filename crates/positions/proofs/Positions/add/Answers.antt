@@ -12,4 +12,5 @@ returns-clause-added c =
     let rows = rows_in c.args.self.now.rows in
     let qs = positions_in c.args.self.now in
     added-view plain_position (leb most_positions (length rows)) rows (rows_in c.push.new.self) c.write.new.self c.write.new.self c.push.result c.push.ensures.rows c.push.ensures.told
-    ∙ ap (λ q. cond (is_ok c.push.result) (qs ++ q ∷ []) qs) (c.write.ensures ∙ ap (written c.args.month c.args.balance) c.new-row.ensures)
+    ∙ ap (λ r. cond (is_ok r) (qs ++ plain_position c.write.new.self ∷ []) qs) c.in_ok-push.was
+    ∙ ap (λ q. qs ++ q ∷ []) (c.write.ensures ∙ ap (written c.args.month c.args.balance) c.new-row.ensures)

@@ -1,14 +1,15 @@
-use Rattle.std.proofs.Common.{length, rules, tests}
+use Rattle.std.proofs.Common.{length}
 use Rattle.std.proofs.lemmas.List.{length_push}
 use Rattle.fixed_tables.specs.Tables.{rows_in}
-use Rattle.positions.proofs.Walks.{row-next, rows-end, rows_on, lent-more, lent-all}
+use Rattle.positions.specs.Rows.{rows_on}
+use Rattle.positions.proofs.Walks.{row-next, rows-end, lent-more, lent-all}
 use Rattle.positions.proofs.Positions.lending.Goals as goal
 
 pub loop-row-preserved : goal.loop-row-preserved
 loop-row-preserved c =
     let rows = rows_in c.args.self.now.rows in
     let row = c.in-Some.row.now in
-    let turn = row-next c.args.investee.id rows c.into_iter-row-iterator.ensures.into_iter_gives (cc) c.filter-row-items.ensures.closure (λ x b q k. search (rules, tests)) c.loop-row.yielded _ c.loop-row.yielded_by _ _ c.in-Some.row c.in-Some.is c.next.ensures.steps in
+    let turn = row-next c.args.investee.id rows c.into_iter-row-iterator.ensures.into_iter_gives c.on-row-items.ensures.rows c.loop-row.yielded c.loop-row.row-iterator c.loop-row.yielded_by _ c.next.new.self c.in-Some.row c.in-Some.is c.next.ensures.steps in
     rw (length_push c.loop-row.yielded c.in-Some.row)
     (lent-more c.args.investee.kind (rows_on c.args.investee.id rows) (length c.loop-row.yielded) row c.loop-row.lending turn.0 turn.1 c.loop-row.invariant
     c.exposure.result c.closing.result c.exposure.ensures.value c.exposure.ensures.bound c.closing.ensures.value c.closing.ensures.bound)
@@ -16,5 +17,5 @@ loop-row-preserved c =
 pub returns : goal.returns
 returns c =
     let rows = rows_in c.args.self.now.rows in
-    let end = rows-end c.args.investee.id rows c.into_iter-row-iterator.ensures.into_iter_gives (cc) c.filter-row-items.ensures.closure (λ x b q k. search (rules, tests)) c.loop-row.yielded _ c.loop-row.yielded_by _ _ c.in-None.is c.next.ensures.steps in
+    let end = rows-end c.args.investee.id rows c.into_iter-row-iterator.ensures.into_iter_gives c.on-row-items.ensures.rows c.loop-row.yielded c.loop-row.row-iterator c.loop-row.yielded_by _ c.next.new.self c.in-None.is c.next.ensures.steps in
     lent-all c.args.investee.kind c.args.investee.id rows (length c.loop-row.yielded) c.loop-row.lending end c.loop-row.invariant

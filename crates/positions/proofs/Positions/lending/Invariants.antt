@@ -1,6 +1,7 @@
 use Rattle.std.proofs.Common.{length}
 use Rattle.fixed_tables.specs.Tables.{rows_in}
-use Rattle.positions.proofs.Walks.{LentSofar, rows_on}
+use Rattle.positions.specs.Rows.{rows_on}
+use Rattle.positions.proofs.Walks.{LentSofar}
 use Rattle.positions.proofs.Positions.lending.Given as goal
 
 abbrev pub invariant-loop-row : goal.invariant-loop-row

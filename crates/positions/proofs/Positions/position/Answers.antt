@@ -1,14 +1,23 @@
-use Rattle.std.proofs.Common.{rules, tests, find, option_map, ap, ◌∙◌}
-use Rattle.std.proofs.lemmas.Iterator.{YieldsList-from_slice}
-use Rattle.std.proofs.lemmas.Iterator.Search.{find_from_yields_List}
+use Rattle.std.proofs.Common.{◌≡◌, ℕ, [], Some, None, Option, option_map, get_or, sym, ap, ◌∙◌}
 use Rattle.fixed_tables.specs.Tables.{rows_in}
 use Rattle.plain.specs.PlainBook.{is_of}
+use Rattle.positions.specs.Places.{first_place}
 use Rattle.positions.specs.Rows.{plain_position}
-use Rattle.positions.proofs.Views.{find-view}
+use Rattle.positions.specs.View.{positions_in}
+use Rattle.positions.specs.declared.PositionRow.{PositionRow}
+use Rattle.positions.proofs.Places.{first-nowhere, row-found}
 use Rattle.positions.proofs.Positions.position.Goals as goal
+
+pub returns-in_err-place : goal.returns-in_err-place
+returns-in_err-place c =
+    let none : ◌≡◌ {A = Option ℕ} None (first_place (is_of c.args.branch c.args.id) (positions_in c.args.self.now)) = sym c.in_err-place.was ∙ c.place.ensures in
+    ap (option_map plain_position) c.from_residual.ensures
+    ∙ sym (first-nowhere (is_of c.args.branch c.args.id) (positions_in c.args.self.now) none)
 
 pub returns : goal.returns
 returns c =
-    let found = find_from_yields_List (λ row. is_of c.args.branch c.args.id (plain_position row)) _ _ c.find.result c.find.ensures.ran (YieldsList-from_slice c.as_slice.result.now (cc)) (λ x b q k. search (rules, tests)) in
-    ap (option_map plain_position) (c.copied.ensures ∙ found ∙ ap (find (λ row. is_of c.args.branch c.args.id (plain_position row))) c.as_slice.ensures.rows)
-    ∙ find-view plain_position (is_of c.args.branch c.args.id) (rows_in c.args.self.now.rows)
+    let rows = rows_in c.args.self.now.rows in
+    let no_row : PositionRow = record { branch = 0; id = 0; balances = [] } in
+    let at : Some c.in_ok-place.field-0 ≡ first_place (is_of c.args.branch c.args.id) (positions_in c.args.self.now) = sym c.in_ok-place.was ∙ c.place.ensures in
+    ap (λ rs. Some (plain_position (get_or rs c.in_ok-place.field-0 no_row))) c.as_slice.ensures.rows
+    ∙ sym (row-found plain_position (is_of c.args.branch c.args.id) rows c.in_ok-place.field-0 at no_row)

@@ -1,6 +1,7 @@
 use Rattle.std.proofs.Common.{length}
 use Rattle.fixed_tables.specs.Tables.{rows_in}
-use Rattle.positions.proofs.Walks.{NoTurnYet, rows_on}
+use Rattle.positions.specs.Rows.{rows_on}
+use Rattle.positions.proofs.Walks.{NoTurnYet}
 use Rattle.positions.proofs.Positions.turn.Given as goal
 
 abbrev pub invariant-loop-row : goal.invariant-loop-row

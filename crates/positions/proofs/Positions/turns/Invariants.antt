@@ -1,7 +1,7 @@
 use Rattle.std.proofs.Common.{length}
 use Rattle.fixed_tables.specs.Tables.{rows_in}
 use Rattle.positions.proofs.Turns.{TurnsSofar}
-use Rattle.positions.proofs.Walks.{rows_on}
+use Rattle.positions.specs.Rows.{rows_on}
 use Rattle.positions.proofs.Positions.turns.Given as goal
 
 abbrev pub invariant-loop-row : goal.invariant-loop-row

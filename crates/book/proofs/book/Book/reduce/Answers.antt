@@ -1,5 +1,5 @@
 use Rattle.std.proofs.Common.{◌≡◌, None, sym, refl, ap, ◌∙◌}
-use Rattle.positions.proofs.Places.{lent-row}
+use Rattle.fixed_tables.proofs.Lent.{lent-row}
 use Rattle.fixed_tables.specs.Tables.{rows_in}
 use Rattle.plain.specs.Changes.{reduced_by}
 use Rattle.plain.specs.PlainBook.{with_investees}
