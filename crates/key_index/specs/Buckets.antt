@@ -4,7 +4,7 @@ use Rattle.std.specs.List.{position_from}
 use Rattle.key_index.specs.declared.Link.{Link}
 
 abbrev pub bucket_count : ℕ
-bucket_count = 256
+bucket_count = 251
 
 abbrev pub bucket_of : ℕ → ℕ
 bucket_of key = key % bucket_count

@@ -12,8 +12,9 @@ mod pushing;
 #[cfg(test)]
 mod tests;
 
-// Keys of one bucket are chained in their order.
-const BUCKETS: usize = 256;
+// Keys of one bucket, which leave the same remainder, are chained in their order. The number is a prime, so that
+// keys in equal steps spread over all buckets.
+const BUCKETS: usize = 251;
 
 // A key, and the place of the next one of its bucket.
 #[derive(Clone, Copy)]
