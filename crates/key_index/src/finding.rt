@@ -1,7 +1,5 @@
 // Finding keys.
-ghost use Rattle.std.specs.Prelude.{◌≡◌, ◌<◌, length};
-ghost use Rattle.fixed_tables.specs.Tables.{rows_in};
-ghost use Rattle.key_index.specs.Buckets.{keys_of};
+ghost use Rattle.std.specs.Prelude.{◌≡◌};
 ghost use Rattle.key_index.specs.Chains.{InChain, found_from};
 ghost use Rattle.key_index.specs.Keys.{keys_in};
 ghost use Rattle.key_index.specs.Places.{first_place, next_place};

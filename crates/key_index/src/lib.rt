@@ -1,7 +1,7 @@
 // Where each key stands in a list of keys: found without looking through the others.
 #![tactic(auto)]
 
-ghost use Rattle.std.specs.Prelude.{◌≡◌, ◌<◌, ◌%◌, length, vec_items};
+ghost use Rattle.std.specs.Prelude.{◌≡◌, ◌<◌};
 ghost use Rattle.fixed_tables.specs.Tables.{rows_in};
 ghost use Rattle.key_index.specs.Buckets.{bucket_of, bucket_count, Chained, FirstsOf, LastsOf};
 

@@ -1,5 +1,5 @@
 // Making an index, and adding keys.
-ghost use Rattle.std.specs.Prelude.{◌≡◌, Ok, Err, [], ◌∷◌, ◌++◌, length, replicate, None, IfOk, is_ok, not, nat_le, if◌then◌else◌};
+ghost use Rattle.std.specs.Prelude.{◌≡◌, Ok, Err, [], ◌∷◌, ◌++◌, length, replicate, None, IfOk, nat_le, if◌then◌else◌};
 ghost use Rattle.fixed_tables.specs.Tables.{rows_in};
 ghost use Rattle.key_index.specs.Buckets.{bucket_count, led_on};
 ghost use Rattle.key_index.specs.Keys.{keys_in};
