@@ -1,4 +1,4 @@
-// Where each key stands in a list of keys: found without looking through the others.
+// Where each key stands in a list of keys, found along the chain of its bucket.
 #![tactic(auto)]
 
 ghost use Rattle.std.specs.Prelude.{◌≡◌, ◌<◌};
@@ -13,7 +13,7 @@ mod pushing;
 mod tests;
 
 // Keys of one bucket, which leave the same remainder, are chained in their order. The number is a prime, so that
-// keys in equal steps spread over all buckets.
+// keys in equal steps spread over all buckets, unless it divides the step.
 const BUCKETS: usize = 251;
 
 // A key, and the place of the next one of its bucket.

@@ -1,5 +1,5 @@
 -- Every run keeps every kilogram.
-use Rattle.std.proofs.Common.{◌≡◌, ℕ, false, not, eqb, ◌≢◌, List, [], ◌∷◌, ◌++◌, map, take, ℤ, ◌+ℤ◌, Some, filter, sym, refl, ◌∙◌, subst, ap₂, arith}
+use Rattle.std.proofs.Common.{◌≡◌, ℕ, Bool, false, not, eqb, ◌≢◌, List, [], ◌∷◌, ◌++◌, map, take, ℤ, ◌+ℤ◌, Some, filter, sym, refl, ◌∙◌, subst, ap₂, arith}
 use Rattle.std.specs.List.{AllByRecursion}
 use Rattle.std.proofs.ByRecursion.{All-weaker, All-map, All-take, All-append, all_kept_by, kept_by_passes}
 use Rattle.std.proofs.lemmas.Bool.Decides.{nat_tests}
@@ -7,7 +7,10 @@ use Rattle.std.proofs.lemmas.Bool.{cond_both, eqb-true}
 use Rattle.rules.specs.Tables.{Tables, Lawful}
 use Rattle.rules.specs.declared.kinds.Kind.{Kind}
 use Rattle.plain.specs.Branches.{Branch}
-use Rattle.plain.specs.EveryRun.{measured, kilograms_in, ProjectsAndRestMakeAll, KeepsEveryKilogram, ReachedByARun, AtEachPoint, EveryRunKeepsEveryKilogram}
+use Rattle.plain.specs.EveryRun.{measured, kilograms_in, ProjectsAndRestMakeAll, GroupAddsUp, KeepsEveryKilogram, ReachedByARun, AtEachPoint, EveryRunKeepsEveryKilogram}
+use Rattle.plain.specs.declared.answers.Answer.TheVariants.{Book}
+use Rattle.plain.specs.declared.answers.BookTotal.{BookTotal}
+use Rattle.plain.specs.Covers.{CoversAreShares}
 use Rattle.plain.specs.Exposures.{positions_on, lent_by, lent_to, Measure, emissions, reductions, apportionment, apportionments}
 use Rattle.plain.specs.Kept.{KeptByEveryRun, KeptOfBonds, KeptUnderRule}
 use Rattle.plain.specs.Lists.{Pairwise}
@@ -19,10 +22,11 @@ use Rattle.plain.specs.Runs.{after, answer, run}
 use Rattle.plain.specs.Steps.{Step, ask_part, ask_total, ask_sheet, ask_book_total, WithinSourceLimits}
 use Rattle.plain.proofs.Bonds.{bonds-at-first, bonds-by-a-call}
 use Rattle.plain.proofs.Kept.{kept-at-first, kept-by-a-call}
-use Rattle.plain.proofs.Kilograms.{AnsweredAsDefined, kilograms-kept}
+use Rattle.plain.proofs.Covers.{covers-shares}
+use Rattle.plain.proofs.Kilograms.{AnsweredAsDefined, book-near, kilograms-kept}
 use Rattle.plain.proofs.Lists.{all_both, found-by-key}
 use Rattle.plain.proofs.Positions.{Differ}
-use Rattle.plain.proofs.Sums.{sum-map, sum-split}
+use Rattle.plain.proofs.Sums.{sum-all, sum-map, sum-split}
 use Rattle.plain.proofs.UnderRule.{above_zero, ruled-at-first, ruled-by-a-call}
 
 -- ---- the positions on one investee
@@ -49,13 +53,15 @@ once_per_branch p ok x = record {
   branches_differ = lent-differ x.profile.kind (id_of x) p.positions ok.positions_differ;
 }
 
-orderly : (t : Tables) → Lawful t → (p : PlainBook) (m : Measure) → KeptByEveryRun p → AllByRecursion Orderly (apportionments t p m)
-orderly t lawful p m ok =
-    All-map Orderly (apportionment t p.positions m) p.investees
-    (All-weaker _ _ (λ x h. record {
+orderly-each : (t : Tables) → Lawful t → (p : PlainBook) (m : Measure) → KeptByEveryRun p → AllByRecursion (λ x. Orderly (apportionment t p.positions m x)) p.investees
+orderly-each t lawful p m ok =
+    All-weaker _ _ (λ x h. record {
       once_per_branch = once_per_branch p ok x;
       above_zero = above_zero (t.bases x.profile.kind x.profile.figures) (lawful.bases_in_range x.profile.kind x.profile.figures h.figures_within_limits);
-    }) p.investees ok.investees_in_range)
+    }) p.investees ok.investees_in_range
+
+orderly : (t : Tables) → Lawful t → (p : PlainBook) (m : Measure) → KeptByEveryRun p → AllByRecursion Orderly (apportionments t p m)
+orderly t lawful p m ok = All-map Orderly (apportionment t p.positions m) p.investees (orderly-each t lawful p m ok)
 
 -- ---- the answers
 
@@ -94,17 +100,41 @@ module _ (t : Tables) (p : PlainBook) (m : Measure) where
       ap₂ ◌+ℤ◌ (sum-map (apportionment t p.positions m) (filter is_project p.investees) total) (sum-map (apportionment t p.positions m) (filter (λ x. not (is_project x)) p.investees) total)
       ∙ sum-split is_project (λ x. total (apportionment t p.positions m x)) p.investees ∙ sym (sum-map (apportionment t p.positions m) p.investees total)
 
+-- what is told for a group of the investees
+group-adds-up : (t : Tables) → Lawful t → (p : PlainBook) → KeptByEveryRun p → (m : Measure) (test : PlainInvestee → Bool) → GroupAddsUp t p m (answer t p) (filter test p.investees) (book_total (map (apportionment t p.positions m) (filter test p.investees)))
+group-adds-up t lawful p ok m test =
+    let group = filter test p.investees in
+    record {
+      totals_add_up =
+          sum-all group _ (λ x. total (apportionment t p.positions m x)) (All-weaker _ _ (λ x. total-answered t p m x) group (all_kept_by test _ p.investees (found-by-key id_of p.investees ok.ids_differ)))
+          ∙ sym (sum-map (apportionment t p.positions m) group total);
+      near_exact_sum = book-near (map (apportionment t p.positions m) group) (All-map Orderly (apportionment t p.positions m) group (all_kept_by test _ p.investees (orderly-each t lawful p m ok)));
+    }
+
 both-add : (m : Measure) (f g h : Measure → ℤ) → ((n : Measure) → f n +ℤ g n ≡ h n) → measured m (both f) +ℤ measured m (both g) ≡ measured m (both h)
 both-add m f g h e = ap₂ ◌+ℤ◌ (measured-both m f) (measured-both m g) ∙ e m ∙ sym (measured-both m h)
 
 pub kilograms-at : (t : Tables) → Lawful t → (p : PlainBook) → KeptByEveryRun p → (m : Measure) → KeepsEveryKilogram t p m (answer t p)
 kilograms-at t lawful p ok m = record {
   no_kilogram_gained_or_lost = kilograms-kept (apportionments t p m) (orderly t lawful p m ok) _ _ _ _ (answered-as-defined t p m ok);
+  projects_add_up = λ k e.
+      let same : book_total_of t p ≡ k = cc in
+      subst (λ k. GroupAddsUp t p m (answer t p) (filter is_project p.investees) (measured m k.projects.kilograms)) same
+      (rw (measured-both m (λ n. book_total (map (apportionment t p.positions n) (filter is_project p.investees)))) (group-adds-up t lawful p ok m is_project));
+  rest_adds_up = λ k e.
+      let same : book_total_of t p ≡ k = cc in
+      subst (λ k. GroupAddsUp t p m (answer t p) (filter (λ x. not (is_project x)) p.investees) (measured m k.rest.kilograms)) same
+      (rw (measured-both m (λ n. book_total (map (apportionment t p.positions n) (filter (λ x. not (is_project x)) p.investees)))) (group-adds-up t lawful p ok m (λ x. not (is_project x))));
   projects_and_rest_make_all = λ k e.
       let same : book_total_of t p ≡ k = cc in
       subst (ProjectsAndRestMakeAll m) same (both-add m (λ n. book_total (map (apportionment t p.positions n) (filter is_project p.investees)))
       (λ n. book_total (map (apportionment t p.positions n) (filter (λ x. not (is_project x)) p.investees))) _ (subtotals-add t p));
 }
+
+covers-told : (t : Tables) (p : PlainBook) (k : BookTotal) → answer t p ask_book_total ≡ Book k → CoversAreShares t p k
+covers-told t p k e =
+    let same : book_total_of t p ≡ k = cc in
+    subst (CoversAreShares t p) same (covers-shares t p)
 
 -- ---- runs
 
@@ -125,8 +155,10 @@ at-each-point t lawful p ok calls limits k =
     record {
       kept = kept;
       of_bonds = of-reached t KeptOfBonds bonds-at-first (λ p c limits. bonds-by-a-call t p c) (run t p (take k calls));
+      under_rule = of-reached t (KeptUnderRule t) (ruled-at-first t) (ruled-by-a-call t lawful) (run t p (take k calls));
       orderly = λ m. orderly t lawful (run t p (take k calls)) m kept;
       kilograms = kilograms-at t lawful (run t p (take k calls)) kept;
+      covers = covers-told t (run t p (take k calls));
     }
 
 pub every-run-keeps : EveryRunKeepsEveryKilogram

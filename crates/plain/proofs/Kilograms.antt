@@ -14,7 +14,7 @@ use Rattle.plain.proofs.Rounding.{no-total-near, totals-near}
 use Rattle.plain.proofs.Sums.{sum-swap, sum-all, sum-branches}
 
 -- the book total of the definitions
-book-near : (all : List Apportionment) → AllByRecursion Orderly all → TotalNearExactSum (counted_in all) (book_total all) (exact_sum all)
+pub book-near : (all : List Apportionment) → AllByRecursion Orderly all → TotalNearExactSum (counted_in all) (book_total all) (exact_sum all)
 unfolding sum_over sum_of_fractions
 book-near [] ok = no-total-near 1
 book-near (a ∷ all) ok =
@@ -28,6 +28,7 @@ module _ (a : Apportionment) (ok : Orderly a) (part_of : ℕ → ℤ) (total_is 
     nothing_without_exposure = λ b h e. parts b h ∙ part_none a b e;
     nothing_unless_counted = λ b h e. parts b h ∙ part-uncounted a b e;
     parts_add_up_to_total = sum-branches part_of (part a) parts ∙ sym is-total;
+    total_near_exact_sum = rw is-total (total-near a ok.once_per_branch);
     total_within_figure = rw is-total (total-within a ok.once_per_branch);
     total_is_figure_iff_exposures_reach = λ counts n. rw is-total (total-whole a ok counts n);
   }

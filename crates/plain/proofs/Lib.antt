@@ -12,6 +12,7 @@ pub mod Positions
 pub mod Kept
 pub mod Bonds
 pub mod UnderRule
+pub mod Covers
 pub mod EveryRun
 pub mod Due
 pub mod Exposures

@@ -1,18 +1,22 @@
 -- That no kilogram is gained or lost by any run of any book, under any rule and with any sources.
-use Rattle.std.specs.Prelude.{◌≡◌, ℕ, List, ◌++◌, take, ℤ, pos, ◌+ℤ◌}
+use Rattle.std.specs.Prelude.{◌≡◌, ℕ, not, List, ◌++◌, map, take, filter, ℤ, pos, ◌+ℤ◌}
 use Rattle.std.specs.List.{AllByRecursion}
 use Rattle.rules.specs.Tables.{Tables, Lawful}
 use Rattle.plain.specs.declared.answers.Answer.{Answer}
 use Rattle.plain.specs.declared.answers.Answer.TheVariants.{Done, Declined, Part, Total, Sheet, Book}
 use Rattle.plain.specs.declared.answers.BookTotal.{BookTotal}
 use Rattle.plain.specs.declared.answers.Kilograms.{Kilograms}
-use Rattle.plain.specs.Exposures.{Measure, emissions, reductions, apportionments}
+use Rattle.plain.specs.Covers.{CoversAreShares}
+use Rattle.plain.specs.Exposures.{Measure, emissions, reductions, apportionment, apportionments}
 use Rattle.plain.specs.Kept.{KeptByEveryRun, KeptOfBonds, KeptUnderRule}
 use Rattle.plain.specs.Kilograms.{NoKilogramGainedOrLost}
-use Rattle.plain.specs.Parts.{Orderly}
-use Rattle.plain.specs.PlainBook.{PlainBook, empty}
+use Rattle.plain.specs.Parts.{Orderly, counted_in, exact_sum}
+use Rattle.plain.specs.PlainBook.{PlainInvestee, PlainBook, empty, id_of}
+use Rattle.plain.specs.Readings.{is_project}
+use Rattle.plain.specs.Rounding.{TotalNearExactSum}
 use Rattle.plain.specs.Runs.{answer, run}
 use Rattle.plain.specs.Steps.{Step, ask_part, ask_total, ask_sheet, ask_book_total, WithinSourceLimits}
+use Rattle.plain.specs.Sums.{sum_over}
 
 -- the kilograms of one measure
 abbrev pub measured : Measure → Kilograms → ℤ
@@ -28,6 +32,11 @@ kilograms_in m (Total k) = measured m k.kilograms
 kilograms_in m (Sheet k) = measured m k
 kilograms_in m (Book k) = measured m k.all.kilograms
 
+-- What is told for a group of investees: the totals of these investees add up to it, and it lies near their exact sum.
+pub record GroupAddsUp (t : Tables) (p : PlainBook) (m : Measure) (ask : Step → Answer) (group : List PlainInvestee) (kilograms : ℤ) : Type 0 where
+  pub totals_add_up : sum_over group (λ x. kilograms_in m (ask (ask_total (id_of x)))) ≡ kilograms
+  pub near_exact_sum : TotalNearExactSum (counted_in (map (apportionment t p.positions m) group)) kilograms (exact_sum (map (apportionment t p.positions m) group))
+
 -- the book total for projects and that for the rest make the book total for all
 abbrev pub ProjectsAndRestMakeAll : Measure → BookTotal → Type 0
 ProjectsAndRestMakeAll m k = measured m k.projects.kilograms +ℤ measured m k.rest.kilograms ≡ measured m k.all.kilograms
@@ -40,6 +49,8 @@ pub record KeepsEveryKilogram (t : Tables) (p : PlainBook) (m : Measure) (ask : 
       (λ id. kilograms_in m (ask (ask_total id)))
       (λ branch. kilograms_in m (ask (ask_sheet branch)))
       (kilograms_in m (ask ask_book_total))
+  pub projects_add_up : (k : BookTotal) → ask ask_book_total ≡ Book k → GroupAddsUp t p m ask (filter is_project p.investees) (measured m k.projects.kilograms)
+  pub rest_adds_up : (k : BookTotal) → ask ask_book_total ≡ Book k → GroupAddsUp t p m ask (filter (λ x. not (is_project x)) p.investees) (measured m k.rest.kilograms)
   pub projects_and_rest_make_all : (k : BookTotal) → ask ask_book_total ≡ Book k → ProjectsAndRestMakeAll m k
 
 -- some run from the empty book has come to p
@@ -49,11 +60,13 @@ ReachedByARun t p = (calls : List Step) × AllByRecursion WithinSourceLimits cal
 -- what holds of a plain book that a run has come to, under the tables t
 pub record HoldsAt (t : Tables) (p : PlainBook) : Type 0 where
   pub kept : KeptByEveryRun p
-  -- a run may also begin with a book of which nothing is known of bonds
+  -- a run may also begin with a book of which nothing is known of bonds and of the rule's bases
   pub of_bonds : ReachedByARun t p → KeptOfBonds p
+  pub under_rule : ReachedByARun t p → KeptUnderRule t p
   -- what is parted: of each investee a branch stands once, and an amount to divide by is above 0
   pub orderly : (m : Measure) → AllByRecursion Orderly (apportionments t p m)
   pub kilograms : (m : Measure) → KeepsEveryKilogram t p m (answer t p)
+  pub covers : (k : BookTotal) → answer t p ask_book_total ≡ Book k → CoversAreShares t p k
 
 -- at each point of a run from p: before its first call, and after each of its calls
 abbrev pub AtEachPoint : Tables → PlainBook → List Step → Type 0

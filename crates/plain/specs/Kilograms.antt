@@ -3,7 +3,7 @@
 use Rattle.std.specs.Prelude.{◌≡◌, ℕ, ◌≤◌, true, false, cond, ◌≢◌, List, ℤ, pos, unsigned_abs}
 use Rattle.std.specs.List.{AllByRecursion}
 use Rattle.plain.specs.Branches.{Branch, branches}
-use Rattle.plain.specs.Parts.{Apportionment, Orderly, exposures, exposure_at, base, share, exact_sum, counted_in, Reached, total}
+use Rattle.plain.specs.Parts.{Apportionment, Orderly, exposures, exposure_at, base, share, all_shares, exact_sum, counted_in, Reached, total}
 use Rattle.plain.specs.Rounding.{rounded, PartNearShare, TotalNearExactSum, TotalIsFigureWhen}
 use Rattle.plain.specs.Sums.{sum_over}
 
@@ -13,6 +13,7 @@ pub record PartsMakeTheTotal (a : Apportionment) (part_of : ℕ → ℤ) (total_
   pub nothing_without_exposure : (b : ℕ) → Branch b → exposure_at a.lent b ≡ 0 → part_of b ≡ pos 0
   pub nothing_unless_counted : (b : ℕ) → Branch b → a.counted ≡ false → part_of b ≡ pos 0
   pub parts_add_up_to_total : sum_over branches part_of ≡ total_is
+  pub total_near_exact_sum : TotalNearExactSum (cond a.counted 1 0) total_is (all_shares a)
   pub total_within_figure : unsigned_abs total_is ≤ unsigned_abs a.figure
   pub total_is_figure_iff_exposures_reach : a.counted ≡ true → a.figure ≢ pos 0 → TotalIsFigureWhen (Reached a) total_is a.figure
 

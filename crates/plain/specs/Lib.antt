@@ -15,6 +15,7 @@ pub mod Refused
 pub mod Readings
 pub mod Runs
 pub mod Kept
+pub mod Covers
 pub mod EveryRun
 pub mod Worked
 pub mod WorkedRefusals

@@ -74,8 +74,8 @@ abbrev pub openings_at_199 : List (Step × ℕ)
 openings_at_199 = (opening 9 5 200 10000 (reads (pos 0)), 0) ∷ []
 
 -- an open id before a full book, and that before the rule
-abbrev pub openings_of_aFull_book : List (Step × ℕ)
-openings_of_aFull_book = (opening 7 2 200 0 fails, 14) ∷ (opening 9 2 200 0 fails, 15) ∷ (opening 9 5 200 10000 (reads (pos 0)), 15) ∷ []
+abbrev pub openings_of_a_full_book : List (Step × ℕ)
+openings_of_a_full_book = (opening 7 2 200 0 fails, 14) ∷ (opening 9 2 200 0 fails, 15) ∷ (opening 9 5 200 10000 (reads (pos 0)), 15) ∷ []
 
 -- a reduction may be below zero, and a reading of emissions may not
 abbrev pub restatements : List (Step × ℕ)
@@ -88,8 +88,8 @@ restatements =
     ∷ (reduce 7 (reads (negsuc 0)), 0)
     ∷ []
 
-abbrev pub posts_on_aLoan : List (Step × ℕ)
-posts_on_aLoan =
+abbrev pub posts_on_a_loan : List (Step × ℕ)
+posts_on_a_loan =
     -- branch, month and balance, before an id that is not open
     (post 41 9 1 0, 20)
     ∷ (post 1 9 13 0, 20)
@@ -109,12 +109,12 @@ abbrev pub posts_at_499 : List (Step × ℕ)
 posts_at_499 = (post 3 7 1 9000000, 25) ∷ (post 3 7 1 0, 0) ∷ []
 
 -- no room, before the exposure; and not for a branch that has a position
-abbrev pub posts_in_aFull_book : List (Step × ℕ)
-posts_in_aFull_book = (post 3 7 1 9000000, 24) ∷ (post 3 7 1 0, 24) ∷ (post 1 7 2 9000000, 25) ∷ (post 1 7 2 0, 0) ∷ []
+abbrev pub posts_in_a_full_book : List (Step × ℕ)
+posts_in_a_full_book = (post 3 7 1 9000000, 24) ∷ (post 3 7 1 0, 24) ∷ (post 1 7 2 9000000, 25) ∷ (post 1 7 2 0, 0) ∷ []
 
 -- the month, before the exposure, and that before the denominator; a bond's balance is counted twelve times
-abbrev pub posts_on_aBond : List (Step × ℕ)
-posts_on_aBond =
+abbrev pub posts_on_a_bond : List (Step × ℕ)
+posts_on_a_bond =
     (post 1 7 11 900000, 21)
     -- exposures of 9,000,012 and 9,000,000
     ∷ (post 1 7 12 750001, 25)
@@ -136,12 +136,12 @@ amendments =
     ∷ []
 
 -- nothing is posted on it yet
-abbrev pub amendments_of_aBond : List (Step × ℕ)
-amendments_of_aBond = (amend 1 7 11 900000, 21) ∷ (amend 1 7 12 900000, 23) ∷ []
+abbrev pub amendments_of_a_bond : List (Step × ℕ)
+amendments_of_a_bond = (amend 1 7 11 900000, 21) ∷ (amend 1 7 12 900000, 23) ∷ []
 
 -- branch 1 has lent 1,000 and nobody more
-abbrev pub amendments_of_aLent_bond : List (Step × ℕ)
-amendments_of_aLent_bond = (amend 1 7 11 900000, 21) ∷ (amend 1 7 12 750001, 25) ∷ (amend 1 7 12 750000, 26) ∷ (amend 1 7 12 1001, 26) ∷ (amend 1 7 12 1000, 0) ∷ []
+abbrev pub amendments_of_a_lent_bond : List (Step × ℕ)
+amendments_of_a_lent_bond = (amend 1 7 11 900000, 21) ∷ (amend 1 7 12 750001, 25) ∷ (amend 1 7 12 750000, 26) ∷ (amend 1 7 12 1001, 26) ∷ (amend 1 7 12 1000, 0) ∷ []
 
 abbrev pub questions : List (Step × ℕ)
 questions = (ask_part 9 41, 20) ∷ (ask_part 9 40, 16) ∷ (ask_part 7 40, 0) ∷ (ask_total 9, 16) ∷ (ask_total 7, 0) ∷ (ask_sheet 41, 20) ∷ (ask_sheet 40, 0) ∷ []
@@ -150,16 +150,16 @@ pub record WorkedRefusals : Type 0 where
   pub when_opening : DeclinedWith national_tables loan openings
   pub investees_held : map (λ n. length (with_others n).investees) (198 ∷ 199 ∷ []) ≡ 199 ∷ 200 ∷ []
   pub when_opening_at_199 : DeclinedWith national_tables (with_others 198) openings_at_199
-  pub when_opening_at_200 : DeclinedWith national_tables (with_others 199) openings_of_aFull_book
+  pub when_opening_at_200 : DeclinedWith national_tables (with_others 199) openings_of_a_full_book
   pub when_restating : DeclinedWith national_tables loan restatements
-  pub when_posting : DeclinedWith national_tables loan posts_on_aLoan
+  pub when_posting : DeclinedWith national_tables loan posts_on_a_loan
   pub positions_held : map (λ n. length (with_posts n).positions) (497 ∷ 498 ∷ []) ≡ 499 ∷ 500 ∷ []
   pub when_posting_at_499 : DeclinedWith national_tables (with_posts 497) posts_at_499
-  pub when_posting_at_500 : DeclinedWith national_tables (with_posts 498) posts_in_aFull_book
-  pub when_posting_on_a_bond : DeclinedWith pudong_tables bond posts_on_aBond
+  pub when_posting_at_500 : DeclinedWith national_tables (with_posts 498) posts_in_a_full_book
+  pub when_posting_on_a_bond : DeclinedWith pudong_tables bond posts_on_a_bond
   pub when_amending : DeclinedWith national_tables loan amendments
-  pub when_amending_a_bond : DeclinedWith pudong_tables bond amendments_of_aBond
-  pub when_amending_a_lent_bond : DeclinedWith pudong_tables (run pudong_tables bond (post 1 7 12 1000 ∷ [])) amendments_of_aLent_bond
+  pub when_amending_a_bond : DeclinedWith pudong_tables bond amendments_of_a_bond
+  pub when_amending_a_lent_bond : DeclinedWith pudong_tables (run pudong_tables bond (post 1 7 12 1000 ∷ [])) amendments_of_a_lent_bond
   pub when_asking : DeclinedWith national_tables loan questions
   -- a fault that a caller's own source means is passed on with its place and its source
   pub a_source's_fault_unchanged : answer national_tables loan (restate 7 fails) ≡ Declined (fault (Custom 77) 3 12)

@@ -1,4 +1,4 @@
-// Going over the positions on one investee, without a look at the others.
+// Going over the positions on one investee, by the index of the ids.
 ghost use Rattle.std.specs.Prelude.{◌≡◌, ◌≤◌, length};
 ghost use Rattle.plain.specs.Limits.{most_positions};
 ghost use Rattle.fixed_tables.specs.Tables.{rows_in};
