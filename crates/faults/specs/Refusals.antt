@@ -18,9 +18,9 @@ number_of ResultTooLarge = 4
 number_of OverseasAboveReading = 5
 -- offsets above the reading that they are taken from
 number_of OffsetsAboveReading = 6
--- attribution rules: the rule has no base for this kind of investee
+-- attribution rules: the kind is not in the rule
 number_of KindNotCovered = 10
--- the figure that the rule divides by is not given
+-- the figure that the rule needs is 0, not given
 number_of FigureNotGiven = 11
 -- the book: a field of an investee outside its range
 number_of FieldOutOfRange = 12
@@ -28,33 +28,33 @@ number_of FieldOutOfRange = 12
 number_of ReadingBelowZero = 13
 -- an investee of this id is already open
 number_of AlreadyOpen = 14
--- the book holds as many investees as it can
+-- 200 investees are held
 number_of InvesteesFull = 15
 -- no investee of this id is open
 number_of NotOpen = 16
--- a branch, month or balance outside its range
+-- a branch that is not 1 to 40, a month that is not 1 to 12, or a balance over 9,000,000
 number_of EntryOutOfRange = 20
--- a bond has a balance in the closing month only
+-- a bond, and the month is not 12
 number_of BondOutsideClosingMonth = 21
--- the month has a balance already
+-- the month is posted already
 number_of MonthAlreadyPosted = 22
--- the month has no balance to amend
+-- the month to amend is not posted
 number_of MonthNotPosted = 23
--- the book holds as many positions as it can
+-- a new position, and 500 are held
 number_of PositionsFull = 24
--- the investee's exposure would pass its limit
+-- the investee's exposure would pass 9,000,000
 number_of ExposureTooLarge = 25
--- a bond's exposure would pass its denominator
+-- a bond's exposure would pass twelve times its amount
 number_of BondAboveDenominator = 26
--- the portfolio file: a line that is not as laid out
+-- the portfolio file: a line that is not as laid out, at its first wrong, missing or surplus field
 number_of FieldNotAsLaidOut = 30
--- a file or its first line beyond the limits
+-- a file over 65,536 bytes, or a first line with a number beyond its limits
 number_of FileBeyondLimits = 31
--- a line missing, not ended, or too many
+-- a line missing or not ended, or bytes after the last line
 number_of LineMissing = 32
--- a buffer too short for a page
+-- a buffer under 8,192 bytes
 number_of PageTooShort = 33
--- own operations: an item that cannot be worked out, or too many items
+-- own operations: an item out of range or over 10^12 kilograms, or more than 64 items
 number_of OwnItem = 40
 -- whatever a caller's own source means by it
 number_of (Custom n) = n

@@ -1,5 +1,5 @@
 // Text and decimal numbers written into a buffer that a caller lends.
-ghost use Rattle.std.specs.Prelude.{◌≡◌, ◌≤◌, [], ◌∷◌, length, decimal, IfNone, OnSome};
+ghost use Rattle.std.specs.Prelude.{◌≡◌, [], ◌∷◌, length, IfNone, OnSome};
 ghost use Rattle.lines.specs.Render.{number_line, FitOneLine, ReadsBack};
 ghost use Rattle.lines.specs.Writing.{Wrote};
 

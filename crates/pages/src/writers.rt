@@ -1,5 +1,5 @@
 // The lines of a page.
-ghost use Rattle.std.specs.Prelude.{◌≡◌, [], ◌∷◌, ◌++◌};
+ghost use Rattle.std.specs.Prelude.{[], ◌∷◌, ◌++◌};
 ghost use Rattle.lines.specs.Writing.{Wrote};
 ghost use Rattle.pages.specs.Page.{head_line, account_line, branch_line, total_line};
 

@@ -1,5 +1,5 @@
 // What the positions say of one investee.
-ghost use Rattle.std.specs.Prelude.{◌≡◌, map, length, replicate, None};
+ghost use Rattle.std.specs.Prelude.{◌≡◌, map, length, None};
 ghost use Rattle.plain.specs.Branches.{branch_count};
 ghost use Rattle.plain.specs.Exposures.{lent_by, positions_on};
 ghost use Rattle.plain.specs.Parts.{exposures};

@@ -1,11 +1,11 @@
 // The positions of a book: what each branch has lent to each investee, in the order of the first posts.
 #![tactic(auto)]
 
-ghost use Rattle.std.specs.Prelude.{◌≡◌, ◌-◌, ◌*◌, ◌^◌, ◌≤◌, Some, if◌then◌else◌, None, sum_by, ◌==◌, nat_eq};
+ghost use Rattle.std.specs.Prelude.{◌≡◌, ◌-◌, ◌*◌, ◌^◌, ◌≤◌, Some, if◌then◌else◌, None, sum_by, ◌==◌};
 ghost use Rattle.std.specs.Option.{unwrap_or};
 ghost use Rattle.rules.specs.Months.{months};
 ghost use Rattle.plain.specs.Exposures.{is_bond, closing_of, exposure_of};
-ghost use Rattle.plain.specs.PlainBook.{is_of, new_position, balance_of};
+ghost use Rattle.plain.specs.PlainBook.{new_position, balance_of};
 ghost use Rattle.fixed_tables.specs.Tables.{rows_in};
 ghost use Rattle.key_index.specs.Keys.{keys_in};
 ghost use Rattle.positions.specs.Entries.{written};

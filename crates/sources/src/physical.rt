@@ -1,7 +1,7 @@
 // Emissions from an energy bill.
 ghost use Rattle.std.specs.Prelude.{◌≡◌, ◌≤◌, length};
 ghost use Rattle.sources.specs.Bottoms.{added, physical_meaning};
-ghost use Rattle.sources.specs.Limits.{most_terms, physical_number};
+ghost use Rattle.sources.specs.Limits.{most_terms};
 ghost use Rattle.sources.specs.Within.{physical-within};
 
 use crate::reading::{Reading, found};
@@ -24,7 +24,7 @@ fn tenths_of_gram(terms: &[Activity]) -> Result<u64, Fault>
     ensures { result ≡ added terms.now }
 {
     // A loop with the index: the first term out of range is named by its place.
-    // No `try_fold`: tried, and the proof that the sum fits does not close.
+    // A `for` and no `try_fold`, in which the bound on the sum so far would not be kept.
     let mut sum = 0;
     for (i, term) in terms.iter().enumerate() {
         let tenths = term.tenths_of_gram().ok_or(Fault {
