@@ -18,7 +18,7 @@ pub mod readings;
 mod restating;
 mod running;
 
-// One lender's book under one rule, with room for all that it can hold: no call after the first wants memory.
+// One lender's book under one rule, with room for all that it can hold: no call after `new` wants memory.
 #[derive(Drop)]
 pub struct Book<'r, R: Rule> {
     // Each call says by three clauses what the book, its rule and the answer then are: contracts are read one by one.

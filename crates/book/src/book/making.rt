@@ -10,7 +10,8 @@ use rules::rule::Rule;
 use std::alloc::{AllocError, Global};
 
 impl<'r, R: Rule> Book<'r, R> {
-    // A book without investees under a rule. It reserves all the memory that the book will use.
+    // A book without investees under a rule. It reserves all the memory that the book will use. When memory is
+    // wanting is left open.
     pub fn new(heap: Global, rule: &'r R) -> Result<Book<'r, R>, AllocError>
         ensures { IfOk result (λ b. (plain b ≡ empty) × (b.rule.now ≡ rule.now)) }
     {

@@ -20,7 +20,7 @@ use rules::rule::Rule;
 use std::array;
 
 impl<'b, 'r, R: Rule> Held<'b, 'r, R> {
-    // Adds its parts to the sums of the branches: the rule is asked once, and the positions are read twice.
+    // Adds its parts to the sums of the branches: the rule is asked once, and its positions are read twice.
     fn add_parts(&self, sums: &mut [Kilograms])
         requires { RoomForParts sums.old }
         ensures { WithParts (λ b. part_of (R.tables self.now.book.now.rule.now) (plain self.now.book.now) b (plain_investee self.now.row)) sums.old sums.new }
