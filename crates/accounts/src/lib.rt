@@ -7,7 +7,8 @@ ghost use Rattle.plain.specs.Layout.{kilograms_text, book_total_text, answer_tex
 use plain::answers::{Answer, BookTotal, Kilograms};
 use std::alloc::{AllocError, Global};
 
-// Each function promises the text of its type, so that no caller needs the contract of a `Display`.
+// Each function promises the text of its type, so that no caller needs the contract of a `Display`. When memory is wanting is
+// left open.
 
 // Both measures.
 pub fn kilograms_text(heap: Global, kilograms: Kilograms) -> Result<String, AllocError>

@@ -24,7 +24,8 @@ pub struct Facts {
     pub closing: u64,
 }
 
-// Each function promises the text of its type, so that no caller needs the contract of a `Display`.
+// Each function promises the text of its type, so that no caller needs the contract of a `Display`. When memory is wanting is
+// left open.
 
 // What exposures are divided by, or the refusal's number.
 pub fn base_text(heap: Global, base: Result<Base, Refusal>) -> Result<String, AllocError>

@@ -8,7 +8,7 @@ use crate::Table;
 use std::alloc::{AllocError, Global};
 
 impl<T: Drop, const MOST: usize> Table<T, MOST> {
-    // A table without rows. It reserves all the memory that it will use.
+    // A table without rows. It reserves all the memory that it will use. When memory is wanting is left open.
     pub fn new(heap: Global) -> Result<Table<T, MOST>, AllocError>
         ensures { IfOk result (λ t. rows_in t ≡ []) }
     {
