@@ -1,5 +1,7 @@
 // Loading a file.
-ghost use Rattle.std.specs.Prelude.{◌≡◌, IfOk};
+ghost use Rattle.std.specs.Prelude.{◌≡◌, Ok, Err, IfOk};
+ghost use Rattle.entries.specs.declared.stop.Stop.{Stop};
+ghost use Rattle.portfolio.specs.Layout.{layout_of};
 ghost use Rattle.portfolio.specs.Seen.{plain_portfolio};
 ghost use Rattle.loading.specs.Loading.{entered, loading_of, plain_loaded, seen_loaded, LoadsPortfolios};
 
@@ -21,9 +23,10 @@ fn load_portfolio(heap: Global, portfolio: Portfolio<'_>) -> Result<Loaded, Allo
 }
 
 // Any bytes as a portfolio file: where they are laid out as one, a new book with its entries, to the last or to the
-// first that is declined; else where they stop being one.
+// first that is declined; else where they stop being one, for which no memory is wanted.
 // A `Result` in a `Result`: want of memory is never mixed with what is said of the file.
 pub fn load(heap: Global, bytes: &[u8]) -> Result<Result<Loaded, Stop>, AllocError>
+    ensures not_laid_out { (s : Stop) → layout_of bytes.now ≡ Err s → result ≡ Ok (Err s) }
     ensures loaded { IfOk result (λ a. seen_loaded a ≡ loading_of bytes.now) }
     ensures portfolios { LoadsPortfolios bytes.now (loading_of bytes.now) }
 {
