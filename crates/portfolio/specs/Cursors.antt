@@ -1,5 +1,5 @@
 -- What is left for a cursor into the bytes of a file, and what one step of it gives.
-use Rattle.std.specs.Prelude.{◌≡◌, ℕ, zero, suc, List, [], ◌∷◌, Some, None, Ok, Err, Option, Result, IfSome}
+use Rattle.std.specs.Prelude.{◌≡◌, ℕ, zero, suc, List, [], ◌∷◌, Some, None, Ok, Err, Option, Result}
 use Rattle.std.specs.Borrow.{Bor}
 use Rattle.std.specs.Fn.{Shared, FnReturnsAt}
 use Rattle.entries.specs.Entries.{PlainEntry, held_entry}
@@ -76,9 +76,10 @@ NextEntry was r left = NextAs held_entry was r left
 abbrev pub NextPost : List PostEntry → Option PostEntry → List PostEntry → Type 0
 NextPost was r left = NextOf was r left
 
--- once a value is given, one fewer is counted
+-- once a value is given, one fewer is counted; once none is, none is counted
 abbrev pub OneFewer : {X : Type 0} → ℕ → Option X → ℕ → Type 0
-OneFewer n r m = IfSome r (λ x. n ≡ suc m)
+OneFewer n None m = m ≡ 0
+OneFewer n (Some x) m = n ≡ suc m
 
 -- a call gave the first of the investees that were left, or nothing of none; the same of the posts
 abbrev pub GivesInvestee : Investees → Option InvesteeEntry → Investees → Type 0

@@ -68,7 +68,14 @@ impl Iterator for Posts<'_> {
     // The next post in the order of the file; nothing after the last.
     fn next(&mut self) -> Option<PostEntry> {
         let Key { branch, id, month } = self.keys.read_next(read_key)?;
-        let balance = self.balances.read_next(read_balance)?;
+        let Some(balance) = self.balances.read_next(read_balance) else {
+            // A key without its balance is no post, and none after it is counted.
+            self.keys = Section {
+                left: 0,
+                ..self.keys
+            };
+            return None;
+        };
         Some(PostEntry {
             branch,
             id,
