@@ -14,7 +14,7 @@ mod finding;
 mod making;
 mod opening;
 mod posting;
-pub mod readings;
+mod readings;
 mod restating;
 mod running;
 

@@ -24,7 +24,7 @@ use rules::rule::{Rule, attributed};
 
 mod accounts;
 mod lines;
-pub mod sheets;
+mod sheets;
 
 // What the exposures to an investee, added up, are divided by: a base of 0 is taken as 1. An investee that the rule refuses
 // is never opened; its base would be the whole.
