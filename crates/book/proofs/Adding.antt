@@ -14,7 +14,8 @@ use Rattle.plain.specs.Sums.{sum_over}
 use Rattle.plain.proofs.Integers.{linear}
 use Rattle.plain.proofs.Sizes.{sum-within}
 use Rattle.book.specs.Lines.{no_line, covered, takes, taken, no_sums, plus_line, sums_of, LineWithinLimits, AtMostLines}
-use Rattle.book.specs.Shares.{measured, no_kilograms, added, AtMostFigures}
+use Rattle.plain.specs.EveryRun.{measured}
+use Rattle.book.specs.Shares.{no_kilograms, added, AtMostFigures}
 use Rattle.book.specs.declared.book.readings.lines.Group.{Group}
 use Rattle.book.specs.declared.book.readings.lines.Line.{Line}
 use Rattle.book.specs.declared.book.readings.lines.Sums.{Sums}

@@ -20,7 +20,7 @@ use Rattle.plain.proofs.Exposures.{sum_kept, mean-kept}
 use Rattle.plain.proofs.Parts.{total-within}
 use Rattle.plain.proofs.Sums.{sum-map, sum_same}
 use Rattle.book.specs.Lines.{no_line, line_of, covered, weight_of, grade_of, takes, taken, sums_of, subtotal_from, book_total_from, LineWithinLimits}
-use Rattle.book.specs.Shares.{measured}
+use Rattle.plain.specs.EveryRun.{measured}
 use Rattle.book.specs.Standings.{WithinBook}
 use Rattle.book.specs.declared.book.readings.lines.Group.{Group}
 use Rattle.book.specs.declared.book.readings.lines.Group.TheVariants.{Projects, Rest}

@@ -12,7 +12,8 @@ use Rattle.plain.specs.Limits.{most_positions, most_exposure}
 use Rattle.plain.specs.PlainBook.{PlainInvestee, PlainBook, id_of}
 use Rattle.plain.specs.Readings.{both, total_of, hundredths, is_project}
 use Rattle.plain.specs.Sums.{sum_over}
-use Rattle.book.specs.Shares.{measured, added, AtMostFigures}
+use Rattle.plain.specs.EveryRun.{measured}
+use Rattle.book.specs.Shares.{added, AtMostFigures}
 use Rattle.book.specs.declared.book.readings.lines.Group.{Group}
 use Rattle.book.specs.declared.book.readings.lines.Group.TheVariants.{Projects, Rest, All}
 use Rattle.book.specs.declared.book.readings.lines.Line.{Line}

@@ -4,7 +4,7 @@ use Rattle.rules.specs.Figures.{most_figure}
 use Rattle.rules.specs.Months.{months}
 use Rattle.sources.specs.Limits.{most_kilograms}
 use Rattle.plain.specs.declared.answers.Kilograms.{Kilograms}
-use Rattle.plain.specs.Exposures.{Measure, emissions, reductions}
+use Rattle.plain.specs.EveryRun.{measured}
 use Rattle.plain.specs.Limits.{most_exposure}
 use Rattle.plain.specs.Readings.{both}
 
@@ -16,14 +16,11 @@ pub record Sizes (figure : ℤ) (exposure base : ℕ) : Type 0 where
   pub base_above_zero : 0 < base
   pub base_within_limit : base ≤ months * most_figure
 
--- the kilograms of one measure
-abbrev pub measured : Measure → Kilograms → ℤ
-measured emissions k = k.emissions
-measured reductions k = k.reductions
-
+-- both measures added
 abbrev pub added : Kilograms → Kilograms → Kilograms
 added k l = both (λ m. measured m k +ℤ measured m l)
 
+-- none of either measure
 abbrev pub no_kilograms : Kilograms
 no_kilograms = record { emissions = pos 0; reductions = pos 0 }
 
