@@ -1,4 +1,5 @@
 mod Laws
+mod Refusing
 mod Sections
 mod Steps
 mod Walks

@@ -1,5 +1,6 @@
 pub mod Cursors
 pub mod Layout
+pub mod Refused
 pub mod Rows
 pub mod Seen
 pub mod Text

@@ -2,6 +2,7 @@
 ghost use Rattle.std.specs.Prelude.{◌≡◌};
 ghost use Rattle.lines.specs.Pieces.{left_in};
 ghost use Rattle.portfolio.specs.Layout.{body_of, layout_of};
+ghost use Rattle.portfolio.specs.Refused.{RefusesRightly};
 ghost use Rattle.portfolio.specs.Seen.{plain_head, seen, Counted};
 ghost use Rattle.portfolio.specs.Text.{AcceptsTexts};
 
@@ -41,6 +42,7 @@ fn read_body<'a>(lines: Pieces<'a>, head: Head) -> Result<Portfolio<'a>, Stop>
 pub fn read<'a>(bytes: &'a [u8]) -> Result<Portfolio<'a>, Stop>
     ensures value { seen result ≡ layout_of bytes.now }
     ensures counts { Counted result }
+    ensures refused { RefusesRightly bytes.now (seen result) }
     ensures texts { AcceptsTexts bytes.now (seen result) }
 {
     if bytes.len() > MOST_BYTES {

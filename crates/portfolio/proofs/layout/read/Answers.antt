@@ -1,13 +1,26 @@
-use Rattle.std.proofs.Common.{arith}
+use Rattle.std.proofs.Common.{Err, arith}
 use Rattle.std.proofs.lemmas.Grind.{common_steps}
 use Rattle.portfolio.proofs.Laws.{accepts}
+use Rattle.portfolio.proofs.Refusing.{refuses-rightly}
 use Rattle.portfolio.proofs.layout.read.Goals as goal
+
+pub returns-then-bytes-gt-MOST_BYTES-clause-refused : goal.returns-then-bytes-gt-MOST_BYTES-clause-refused
+returns-then-bytes-gt-MOST_BYTES-clause-refused c = refuses-rightly c.args.bytes.now (Err c.file_beyond.result) (grind (arith, common_steps))
+
+pub returns-in_err-line-clause-refused : goal.returns-in_err-line-clause-refused
+returns-in_err-line-clause-refused c = refuses-rightly c.args.bytes.now _ (grind (arith, common_steps))
 
 pub returns-in_err-line-clause-texts : goal.returns-in_err-line-clause-texts
 returns-in_err-line-clause-texts c = accepts c.args.bytes.now _ (grind (arith, common_steps))
 
+pub returns-in_err-head-clause-refused : goal.returns-in_err-head-clause-refused
+returns-in_err-head-clause-refused c = refuses-rightly c.args.bytes.now _ (grind (arith, common_steps))
+
 pub returns-in_err-head-clause-texts : goal.returns-in_err-head-clause-texts
 returns-in_err-head-clause-texts c = accepts c.args.bytes.now _ (grind (arith, common_steps))
+
+pub returns-clause-refused : goal.returns-clause-refused
+returns-clause-refused c = refuses-rightly c.args.bytes.now _ (grind (arith, common_steps))
 
 pub returns-clause-texts : goal.returns-clause-texts
 returns-clause-texts c = accepts c.args.bytes.now _ (grind (arith, common_steps))
