@@ -17,6 +17,7 @@ use Rattle.plain.specs.Refused.{declined}
 use Rattle.plain.specs.Runs.{after, run, unless}
 use Rattle.plain.specs.Steps.{Step, WithinSourceLimits}
 use Rattle.portfolio.specs.Layout.{layout_of}
+use Rattle.portfolio.specs.Refused.{RefusesRightly}
 use Rattle.portfolio.specs.Text.{AcceptsTexts, IsTextOf}
 use Rattle.loading.specs.Loading.{EnteredInOrder, LoadsPortfolios, entered, entered_from, loading_of}
 use Rattle.loading.specs.Trying.{Outcome, outcome, tried, Ended, all_accepted, next_declined, TriedInOrder, entries_of, first_entry_line, opening, posting}
@@ -108,20 +109,20 @@ entered-in-order f =
 
 -- ---- whole files
 
-loads-from : (bytes : List ℕ) (r : Result PlainPortfolio Stop) → layout_of bytes ≡ r → AcceptsTexts bytes r → LoadsPortfolios bytes (entered_from r)
-loads-from bytes (Ok f) laid accepts =
+loads-from : (bytes : List ℕ) (r : Result PlainPortfolio Stop) → layout_of bytes ≡ r → AcceptsTexts bytes r → RefusesRightly bytes r → LoadsPortfolios bytes (entered_from r)
+loads-from bytes (Ok f) laid accepts refuses =
     record {
       of_a_portfolio = λ g is. let same : f ≡ g = cc ((accepts g).1 is) in subst (λ h. EnteredInOrder h (entered f)) same (entered-in-order f);
       of_no_other = (f, (accepts f).0 refl, entered-in-order f);
     }
-loads-from bytes (Err s) stops accepts =
+loads-from bytes (Err s) stops accepts refuses =
     record {
       of_a_portfolio = λ g is. none g is;
-      of_no_other = (stops, none);
+      of_no_other = (stops, refuses, none);
     }
   where
     none : (g : PlainPortfolio) → IsTextOf g bytes → ⊥
     none g is = let z : ◌≡◌ {A = ℕ} 0 1 = cc ((accepts g).1 is) in absurd (omega arith)
 
-pub loads-portfolios : (bytes : List ℕ) → AcceptsTexts bytes (layout_of bytes) → LoadsPortfolios bytes (loading_of bytes)
-loads-portfolios bytes accepts = loads-from bytes (layout_of bytes) refl accepts
+pub loads-portfolios : (bytes : List ℕ) → AcceptsTexts bytes (layout_of bytes) → RefusesRightly bytes (layout_of bytes) → LoadsPortfolios bytes (loading_of bytes)
+loads-portfolios bytes accepts refuses = loads-from bytes (layout_of bytes) refl accepts refuses

@@ -8,6 +8,7 @@ use Rattle.plain.specs.EveryRun.{HoldsAt, ReachedByARun}
 use Rattle.plain.specs.PlainBook.{empty}
 use Rattle.book.specs.View.{plain}
 use Rattle.portfolio.specs.Layout.{layout_of}
+use Rattle.portfolio.specs.Refused.{Refused}
 use Rattle.portfolio.specs.Text.{IsTextOf}
 use Rattle.loading.specs.Trying.{Outcome, TriedInOrder, entries_of, first_entry_line, tried}
 use Rattle.loading.specs.declared.loaded.Loaded.{Loaded}
@@ -49,10 +50,11 @@ abbrev pub EnteredAs : PlainPortfolio → Result PlainLoaded Stop → Type 0
 EnteredAs f (Ok l) = EnteredInOrder f l
 EnteredAs f (Err s) = ⊥
 
--- a book has come of a portfolio whose text the bytes are; bytes without a book are the text of none, and stop where the layout does
+-- a book has come of a portfolio whose text the bytes are; bytes without a book are the text of none, and stop where the layout
+-- does: beyond the limits of a file, or at the first line that is not as laid out
 abbrev pub HasComeOf : List ℕ → Result PlainLoaded Stop → Type 0
 HasComeOf bytes (Ok l) = (f : PlainPortfolio) × IsTextOf f bytes × EnteredInOrder f l
-HasComeOf bytes (Err s) = (layout_of bytes ≡ Err s) × ((f : PlainPortfolio) → IsTextOf f bytes → ⊥)
+HasComeOf bytes (Err s) = (layout_of bytes ≡ Err s) × Refused bytes s × ((f : PlainPortfolio) → IsTextOf f bytes → ⊥)
 
 -- Exactly the texts of portfolios give a book.
 pub record LoadsPortfolios (bytes : List ℕ) (r : Result PlainLoaded Stop) : Type 0 where
