@@ -65,6 +65,16 @@ ended l (p ∷ q ∷ ps) x = Err (missing l)
 
 -- ---- the file
 
+-- the most investees, posts and bytes of a file
+abbrev pub most_investees : ℕ
+most_investees = 200
+
+abbrev pub most_posts : ℕ
+most_posts = 1000
+
+abbrev pub most_bytes : ℕ
+most_bytes = 65536
+
 -- how many lines of each kind follow the first, and the guide
 pub record PlainHead : Type 0 where
   pub investees : ℕ
@@ -72,7 +82,7 @@ pub record PlainHead : Type 0 where
   pub guide : Guide
 
 abbrev pub within_limits : (investees posts : ℕ) → Bool
-within_limits investees posts = nat_le investees 200 && nat_le posts 1000
+within_limits investees posts = nat_le investees most_investees && nat_le posts most_posts
 
 abbrev pub head_by : (investees posts : ℕ) → Option Guide → Result PlainHead Stop
 head_by investees posts None = Err beyond_limits
@@ -104,7 +114,7 @@ body_of h ps =
     (λ c. ended (2 + h.investees + h.posts + h.posts) c.1 (record { guide = h.guide; investees = a.0; posts = postings b.0 c.0 }))))
 
 abbrev pub layout_of : List ℕ → Result PlainPortfolio Stop
-layout_of bytes = cond (nat_lt 65536 (length bytes)) (Err beyond_limits) (on_line 1 (next_line (pieces 10 bytes)) (λ line ps. and_then (head_of line) (λ h. body_of h ps)))
+layout_of bytes = cond (nat_lt most_bytes (length bytes)) (Err beyond_limits) (on_line 1 (next_line (pieces 10 bytes)) (λ line ps. and_then (head_of line) (λ h. body_of h ps)))
 
 -- ---- what a program answers
 

@@ -11,7 +11,7 @@ use Rattle.lines.specs.Fields.{pieces}
 use Rattle.portfolio_lines.specs.Lines.{number_line, investee_of, key_of, balance_of}
 use Rattle.portfolio_lines.specs.Misreads.{place_of}
 use Rattle.portfolio_lines.specs.declared.misread.Misread.{Misread}
-use Rattle.portfolio.specs.Layout.{PlainHead, beyond_limits, head_of, next_line}
+use Rattle.portfolio.specs.Layout.{PlainHead, beyond_limits, head_of, most_bytes, most_investees, most_posts, next_line}
 use Rattle.portfolio.specs.Rows.{passes}
 
 abbrev pub Row : Type 0
@@ -71,13 +71,13 @@ pub record StopsAtFirst (rows : List Row) (l : ℕ) (ps : List (List ℕ)) (s : 
 
 -- the three numbers of line 1 are within the limits of a file
 pub record NumbersWithin (ns : List ℕ) : Type 0 where
-  pub few_investees : slice_index ns 0 ≤ 200
-  pub few_posts : slice_index ns 1 ≤ 1000
+  pub few_investees : slice_index ns 0 ≤ most_investees
+  pub few_posts : slice_index ns 1 ≤ most_posts
   pub some_guide : IsSome (guide_numbered (slice_index ns 2))
 
 -- the bytes are few enough, and so are the numbers of line 1 if that is as laid out
 pub record WithinLimits (bytes : List ℕ) : Type 0 where
-  pub short : length bytes ≤ 65536
+  pub short : length bytes ≤ most_bytes
   pub numbers : (line : List ℕ) (qs : List (List ℕ)) (ns : List ℕ) → next_line (pieces 10 bytes) ≡ Some (line, qs) → number_line 3 line ≡ Ok ns → NumbersWithin ns
 
 -- Bytes beyond the limits are refused as such, and no others are; others stop at the first line that is not as laid out.

@@ -7,6 +7,7 @@ use Rattle.entries.specs.declared.investee.PostEntry.{PostEntry}
 use Rattle.entries.specs.declared.stop.Stop.{Stop}
 use Rattle.lines.specs.Render.{printed}
 use Rattle.portfolio_lines.specs.Text.{ThirteenDigits, head_numbers, method_numbers, investee_line}
+use Rattle.portfolio.specs.Layout.{most_bytes, most_investees, most_posts}
 
 -- line 1: the number of investees, the number of posts, the guide's number
 abbrev pub head_line : PlainPortfolio → List ℕ
@@ -42,9 +43,9 @@ pub record IsTextOf (f : PlainPortfolio) (bytes : List ℕ) : Type 0 where
   pub investee_digits : AllByRecursion InvesteeDigits f.investees
   pub post_digits : AllByRecursion PostDigits f.posts
   pub short_lines : AllByRecursion (λ line. length line ≤ 511) (lines_of f)
-  pub few_investees : length f.investees ≤ 200
-  pub few_posts : length f.posts ≤ 1000
-  pub short : length bytes ≤ 65536
+  pub few_investees : length f.investees ≤ most_investees
+  pub few_posts : length f.posts ≤ most_posts
+  pub short : length bytes ≤ most_bytes
 
 -- a portfolio is read just where the bytes are its text
 abbrev pub AcceptsTexts : List ℕ → Result PlainPortfolio Stop → Type 0

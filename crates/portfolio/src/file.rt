@@ -1,6 +1,7 @@
 // A portfolio in the bytes of a file: its guide, and cursors to its investees and posts.
 ghost use Rattle.std.specs.Prelude.{◌≡◌, ◌≤◌, length};
 ghost use Rattle.portfolio.specs.Cursors.{investees_left, posts_left, investee_count, post_count};
+ghost use Rattle.portfolio.specs.Layout.{most_investees, most_posts};
 
 use crate::section::Section;
 use entries::guide::Guide;
@@ -92,7 +93,7 @@ pub struct Portfolio<'a> {
     pub(crate) investees: Investees<'a>,
     pub(crate) posts: Posts<'a>,
     pub ghost counted: { (investee_count investees ≡ length (investees_left investees)) × (post_count posts ≡ length (posts_left posts)) },
-    pub ghost few: { (investee_count investees ≤ 200) × (post_count posts ≤ 1000) },
+    pub ghost few: { (investee_count investees ≤ most_investees) × (post_count posts ≤ most_posts) },
 }
 
 impl<'a> Portfolio<'a> {

@@ -1,6 +1,6 @@
 // The first line of a file.
 ghost use Rattle.std.specs.Prelude.{◌≡◌, ◌≤◌};
-ghost use Rattle.portfolio.specs.Layout.{head_of, within_limits};
+ghost use Rattle.portfolio.specs.Layout.{head_of, most_investees, most_posts, within_limits};
 
 use crate::stops::{file_beyond, wrong_field};
 use entries::guide::Guide;
@@ -21,7 +21,7 @@ pub struct Head {
     pub investees: usize,
     pub posts: usize,
     pub guide: Guide,
-    ghost limits: { (investees ≤ 200) × (posts ≤ 1000) },
+    ghost limits: { (investees ≤ most_investees) × (posts ≤ most_posts) },
 }
 
 fn within_limits(investees: u64, posts: u64) -> bool
