@@ -1,17 +1,16 @@
 -- The steps of a run, and what is owed at its end.
-use Rattle.std.proofs.Common.{◌≡◌, ℕ, ◌+◌, ◌-◌, ◌<◌, List, [], ◌∷◌, ◌++◌, length, get_or, take, drop, set, sym, refl, ap, ◌∙◌, append_assoc, arith}
+use Rattle.std.proofs.Common.{◌≡◌, ℕ, ◌+◌, ◌-◌, ◌<◌, List, [], ◌∷◌, ◌++◌, length, get_or, take, drop, set, sym, ap, ◌∙◌, subst, append_assoc, arith}
 use Rattle.std.specs.List.{AllByRecursion}
-use Rattle.std.proofs.ByRecursion.{All-append}
 use Rattle.std.proofs.lemmas.List.{map_more, drop_more, set-append_right, length-map, length-take-le}
 use Rattle.rules.specs.Tables.{Tables, Lawful}
 use Rattle.sources.specs.Readings.{WithinLimits}
 use Rattle.plain.specs.declared.answers.Answer.{Answer}
-use Rattle.plain.specs.EveryRun.{AtEachPoint, AtEachPointFromTheStart, ReachedByARun}
+use Rattle.plain.specs.EveryRun.{HoldsThroughout}
 use Rattle.plain.specs.Kept.{KeptByEveryRun}
-use Rattle.plain.specs.PlainBook.{PlainBook, empty}
+use Rattle.plain.specs.PlainBook.{PlainBook}
 use Rattle.plain.specs.Runs.{after, answer, answered, run}
 use Rattle.plain.specs.Steps.{Meaning, Step, WithinSourceLimits}
-use Rattle.plain.proofs.EveryRun.{at-each-point, every-run-keeps}
+use Rattle.plain.proofs.EveryRun.{holds-throughout}
 use Rattle.plain.proofs.Runs.{run-push, answered-push, length-answered}
 use Rattle.book.specs.declared.calls.Call.{Call}
 use Rattle.book.specs.declared.calls.Call.TheVariants.{Open, Restate, Reduce, Post, Amend, Part, Total, Sheet, BookTotal}
@@ -65,22 +64,7 @@ module _ {S : Type 0} (t : Tables) (m : S → Meaning) (from : PlainBook) (calls
             ∙ ap (λ l. l ++ drop (i + 1) old) (sym (answered-push t from steps (step_of m x)) ∙ ap (answered t from) next);
       }
 
--- ---- no kilogram is gained or lost
+-- ---- what holds throughout
 
-run-append : (t : Tables) (p : PlainBook) (cs ds : List Step) → run t p (cs ++ ds) ≡ run t (run t p cs) ds
-run-append t p [] ds = refl
-run-append t p (c ∷ cs) ds = run-append t (after t p c) cs ds
-
-module _ {S : Type 0} (t : Tables) (lawful : Lawful t) (m : S → Meaning) (within : (s : S) → WithinLimits (m s)) (p : PlainBook) (calls : List (Call S)) where
-  pub kilograms-here : KeptByEveryRun p → AtEachPoint t p (steps_of m calls)
-  kilograms-here ok = at-each-point t lawful p ok (steps_of m calls) (steps-within m within calls)
-
-  pub kilograms-from-the-start : AtEachPointFromTheStart t p (steps_of m calls)
-  kilograms-from-the-start = every-run-keeps.with_its_history t lawful p (steps_of m calls) (steps-within m within calls)
-
-  pub reached-more : (q : PlainBook) → q ≡ run t p (steps_of m calls) → ReachedByARun t p → ReachedByARun t q
-  reached-more q e (before, limits, led) = (
-    before ++ steps_of m calls,
-    All-append WithinSourceLimits before (steps_of m calls) limits (steps-within m within calls),
-    run-append t empty before (steps_of m calls) ∙ ap (λ r. run t r (steps_of m calls)) led ∙ sym e,
-  )
+pub throughout : {S : Type 0} (t : Tables) → Lawful t → (m : S → Meaning) → ((s : S) → WithinLimits (m s)) → (p q : PlainBook) (calls : List (Call S)) → KeptByEveryRun p → q ≡ run t p (steps_of m calls) → HoldsThroughout t p (steps_of m calls) q
+throughout t lawful m within p q calls ok e = subst (HoldsThroughout t p (steps_of m calls)) (sym e) (holds-throughout t lawful p ok (steps_of m calls) (steps-within m within calls))

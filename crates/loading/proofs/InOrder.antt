@@ -1,5 +1,5 @@
 -- What trying entries comes to, in order.
-use Rattle.std.proofs.Common.{◌≡◌, ℕ, zero, suc, ◌+◌, List, [], ◌∷◌, ◌++◌, map, length, take, drop, Some, None, Ok, Err, Option, Result, sym, refl, ap, ◌∙◌, subst, add-zero, arith}
+use Rattle.std.proofs.Common.{◌≡◌, ℕ, suc, ◌+◌, List, [], ◌∷◌, ◌++◌, map, length, take, drop, Some, None, Ok, Err, Option, Result, sym, refl, ap, ◌∙◌, subst, add-zero, arith}
 use Rattle.faults.specs.declared.Fault.{Fault}
 use Rattle.std.specs.List.{AllByRecursion}
 use Rattle.rules.specs.Tables.{Tables}
@@ -11,7 +11,7 @@ use Rattle.entries.specs.Stops.{stop_at}
 use Rattle.entries.specs.declared.investee.PostEntry.{PostEntry}
 use Rattle.entries.specs.declared.stop.Stop.{Stop}
 use Rattle.plain.proofs.EveryRun.{every-run-keeps}
-use Rattle.plain.specs.EveryRun.{HoldsAt}
+use Rattle.plain.specs.EveryRun.{HoldsWhole}
 use Rattle.plain.specs.PlainBook.{PlainBook, empty}
 use Rattle.plain.specs.Refused.{declined}
 use Rattle.plain.specs.Runs.{after, run, unless}
@@ -89,22 +89,15 @@ postings-within (q ∷ qs) = (tt, postings-within qs)
 pub entries-within : (f : PlainPortfolio) → AllByRecursion WithinSourceLimits (entries_of f)
 entries-within f = openings-within f.investees (map posting f.posts) (postings-within f.posts)
 
-all_take : {X : Type 0} (P : X → Type 0) (n : ℕ) (xs : List X) → AllByRecursion P xs → AllByRecursion P (take n xs)
-all_take P zero xs all = tt
-all_take P (suc n) [] all = tt
-all_take P (suc n) (x ∷ xs) all = (all.0, all_take P n xs all.1)
-
 pub entered-in-order : (f : PlainPortfolio) → EnteredInOrder f (entered f)
 entered-in-order f =
     let t = guide_tables f.guide in
     let order = tried_in_order t first_entry_line empty (entries_of f) in
     let within = entries-within f in
-    let taken = take order.accepted (entries_of f) in
     record {
       under_its_guide = refl;
       tried_in_order = order;
-      holds = subst (HoldsAt t) (sym order.book_of_these) (every-run-keeps.from_the_start t (guide-lawful f.guide) (entries_of f) within order.accepted);
-      reached = (taken, all_take WithinSourceLimits order.accepted (entries_of f) within, sym order.book_of_these);
+      holds = subst (HoldsWhole t) (sym order.book_of_these) (every-run-keeps.from_the_start t (guide-lawful f.guide) (entries_of f) within order.accepted);
     }
 
 -- ---- whole files

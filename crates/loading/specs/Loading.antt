@@ -4,7 +4,7 @@ use Rattle.entries.specs.Entries.{PlainPortfolio}
 use Rattle.entries.specs.Guides.{guide_tables}
 use Rattle.entries.specs.declared.guide.Guide.{Guide}
 use Rattle.entries.specs.declared.stop.Stop.{Stop}
-use Rattle.plain.specs.EveryRun.{HoldsAt, ReachedByARun}
+use Rattle.plain.specs.EveryRun.{HoldsWhole}
 use Rattle.plain.specs.PlainBook.{empty}
 use Rattle.book.specs.View.{plain}
 use Rattle.portfolio.specs.Layout.{layout_of}
@@ -39,12 +39,11 @@ seen_loaded (Err s) = Err s
 
 -- ---- what that means
 
--- the portfolio's entries were tried in order on a new book under its guide, where no kilogram is gained or lost
+-- the portfolio's entries were tried in order on a new book under its guide, where no kilogram is gained or lost: a run has come to it
 pub record EnteredInOrder (f : PlainPortfolio) (l : PlainLoaded) : Type 0 where
   pub under_its_guide : l.guide ≡ f.guide
   pub tried_in_order : TriedInOrder (guide_tables f.guide) first_entry_line empty (entries_of f) l.outcome
-  pub holds : HoldsAt (guide_tables f.guide) l.outcome.book
-  pub reached : ReachedByARun (guide_tables f.guide) l.outcome.book
+  pub holds : HoldsWhole (guide_tables f.guide) l.outcome.book
 
 abbrev pub EnteredAs : PlainPortfolio → Result PlainLoaded Stop → Type 0
 EnteredAs f (Ok l) = EnteredInOrder f l

@@ -44,7 +44,7 @@ module _ (P : PlainPosition → Type 0) (id : ℕ) where
 
 -- ---- one position
 
-none-anywhere : (n i : ℕ) → get_or (replicate {A = Option ℕ} n None) i None ≡ None
+pub none-anywhere : (n i : ℕ) → get_or (replicate {A = Option ℕ} n None) i None ≡ None
 none-anywhere zero i = refl
 none-anywhere (suc n) zero = refl
 none-anywhere (suc n) (suc i) = none-anywhere n i

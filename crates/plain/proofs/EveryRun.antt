@@ -1,32 +1,41 @@
 -- Every run keeps every kilogram.
-use Rattle.std.proofs.Common.{◌≡◌, ℕ, Bool, false, not, eqb, ◌≢◌, List, [], ◌∷◌, ◌++◌, map, take, ℤ, ◌+ℤ◌, Some, filter, sym, refl, ◌∙◌, subst, ap₂, arith}
+use Rattle.std.proofs.Common.{◌≡◌, ℕ, ◌*◌, Bool, true, false, cond, not, eqb, ◌≢◌, ◌↔◌, ◌&&◌, List, [], ◌∷◌, ◌++◌, map, take, ℤ, pos, ◌+ℤ◌, is_some, Some, None, Option, filter, sum_by, sym, refl, ap, ◌∙◌, subst, ap₂, arith}
+use mathlib.Core.Path.{fun_ext}
 use Rattle.std.specs.List.{AllByRecursion}
 use Rattle.std.proofs.ByRecursion.{All-weaker, All-map, All-take, All-append, all_kept_by, kept_by_passes}
+use Rattle.std.proofs.lemmas.List.Sums.{sum_by-cons}
 use Rattle.std.proofs.lemmas.Bool.Decides.{nat_tests}
-use Rattle.std.proofs.lemmas.Bool.{cond_both, eqb-true}
+use Rattle.std.proofs.lemmas.Bool.{cond_both, eqb-true, eq-eqb, ne_eqb}
+use Rattle.rules.specs.Kinds.{kind_number, kind_numbered}
 use Rattle.rules.specs.Tables.{Tables, Lawful}
 use Rattle.rules.specs.declared.kinds.Kind.{Kind}
-use Rattle.plain.specs.Branches.{Branch}
-use Rattle.plain.specs.EveryRun.{measured, kilograms_in, ProjectsAndRestMakeAll, GroupAddsUp, KeepsEveryKilogram, ReachedByARun, AtEachPoint, EveryRunKeepsEveryKilogram}
-use Rattle.plain.specs.declared.answers.Answer.TheVariants.{Book}
-use Rattle.plain.specs.declared.answers.BookTotal.{BookTotal}
-use Rattle.plain.specs.Covers.{CoversAreShares}
-use Rattle.plain.specs.Exposures.{positions_on, lent_by, lent_to, Measure, emissions, reductions, apportionment, apportionments}
+use Rattle.rules.specs.declared.kinds.Kind.TheVariants.{Project, PropertyDevelopment, PropertyPurchase, Vehicle, GeneralLoan, Bond}
+use Rattle.plain.specs.Answered.{Answered}
+use Rattle.plain.specs.Branches.{Branch, branches}
+use Rattle.plain.specs.EveryRun.{measured, GroupAddsUp, KeepsEveryKilogram, TellsWhy, ReachedByARun, HoldsAt, HoldsWhole, AtEachPoint, HoldsThroughout, EveryRunKeepsEveryKilogram}
+use Rattle.plain.specs.declared.answers.Answer.TheVariants.{Declined, Part, Total, Sheet}
+use Rattle.plain.specs.declared.answers.InvesteeTotal.{InvesteeTotal}
+use Rattle.plain.specs.declared.answers.Kilograms.{Kilograms}
+use Rattle.plain.specs.Covers.{IsShare, is_of_kind, told_counted, positions_on_those, CoversOf, CoversAreShares, MeanGradeIsNearest}
+use Rattle.plain.specs.Exposures.{exposure_to, positions_on, lent_by, lent_to, is_counted, reason_of, Measure, emissions, reductions, apportionment, apportionments}
 use Rattle.plain.specs.Kept.{KeptByEveryRun, KeptOfBonds, KeptUnderRule}
 use Rattle.plain.specs.Lists.{Pairwise}
 use Rattle.plain.specs.Parts.{part, total, sheet, book_total, OncePerBranch, Orderly}
-use Rattle.plain.specs.PlainBook.{PlainInvestee, PlainPosition, PlainBook, empty, id_of, investee_of}
-use Rattle.plain.specs.Readings.{both, is_project, book_total_of}
-use Rattle.plain.specs.Refused.{branch_out_of_range}
-use Rattle.plain.specs.Runs.{after, answer, run}
-use Rattle.plain.specs.Steps.{Step, ask_part, ask_total, ask_sheet, ask_book_total, WithinSourceLimits}
+use Rattle.plain.specs.PlainBook.{PlainInvestee, PlainPosition, PlainBook, empty, id_of, investee_of, is_open}
+use Rattle.plain.specs.Readings.{both, of_investee, part_of, total_of, sheet_of, positions_on_all, covers, hundredths, project_kind, is_project, subtotal_of, book_total_of}
+use Rattle.plain.specs.Refused.{if_open, branch_out_of_range}
+use Rattle.plain.specs.Runs.{unless, after, answer, run}
+use Rattle.plain.specs.Steps.{Step, ask_part, ask_total, ask_sheet, WithinSourceLimits}
 use Rattle.plain.proofs.Bonds.{bonds-at-first, bonds-by-a-call}
 use Rattle.plain.proofs.Kept.{kept-at-first, kept-by-a-call}
-use Rattle.plain.proofs.Covers.{covers-shares}
+use Rattle.plain.proofs.Covers.{hundredths-share, nearest-mean}
+use Rattle.plain.proofs.OnOne.{positions-on-those, each-on-one}
 use Rattle.plain.proofs.Kilograms.{AnsweredAsDefined, book-near, kilograms-kept}
 use Rattle.plain.proofs.Lists.{all_both, found-by-key}
+use Rattle.plain.proofs.Parts.{part-uncounted}
 use Rattle.plain.proofs.Positions.{Differ}
-use Rattle.plain.proofs.Sums.{sum-all, sum-map, sum-split}
+use Rattle.plain.proofs.Runs.{run-append}
+use Rattle.plain.proofs.Sums.{sum-all, sum-map, sum-split, sum-zero, sum-branches}
 use Rattle.plain.proofs.UnderRule.{above_zero, ruled-at-first, ruled-by-a-call}
 
 -- ---- the positions on one investee
@@ -72,25 +81,73 @@ measured-both reductions f = refl
 in_range : (b : ℕ) → Branch b → branch_out_of_range b ≡ false
 in_range b h = grind (arith, nat_tests)
 
+-- the figures of the investee of an id, where there is one
+abbrev told_part : Tables → PlainBook → ℕ → Option PlainInvestee → Kilograms
+told_part t p b None = both (λ m. pos 0)
+told_part t p b (Some x) = part_of t p b x
+
+abbrev told_total : Tables → PlainBook → Option PlainInvestee → InvesteeTotal
+told_total t p None = record { kilograms = both (λ m. pos 0); reason = 0; grade = 0 }
+told_total t p (Some x) = total_of t p x
+
+part-told : (t : Tables) (p : PlainBook) (id b : ℕ) → is_open id p ≡ true → Branch b → answer t p (ask_part id b) ≡ Part (told_part t p b (investee_of id p))
+part-told t p id b is-there branch = rw (in_range b branch) (by (investee_of id p) is-there)
+  where
+    by : (o : Option PlainInvestee) → is_some o ≡ true → unless (if_open o (λ x. None)) (of_investee o (λ x. Part (part_of t p b x))) Declined ≡ Part (told_part t p b o)
+    by None e = absurd cc
+    by (Some x) e = refl
+
+total-told : (t : Tables) (p : PlainBook) (id : ℕ) → is_open id p ≡ true → answer t p (ask_total id) ≡ Total (told_total t p (investee_of id p))
+total-told t p id is-there = by (investee_of id p) is-there
+  where
+    by : (o : Option PlainInvestee) → is_some o ≡ true → unless (if_open o (λ x. None)) (of_investee o (λ x. Total (total_of t p x))) Declined ≡ Total (told_total t p o)
+    by None e = absurd cc
+    by (Some x) e = refl
+
+sheet-told : (t : Tables) (p : PlainBook) (b : ℕ) → Branch b → answer t p (ask_sheet b) ≡ Sheet (sheet_of t p b)
+sheet-told t p b branch = rw (in_range b branch) refl
+
+abbrev all-answered : (t : Tables) (p : PlainBook) → Answered p (answer t p)
+all-answered t p = record {
+  part_of = λ id b. told_part t p b (investee_of id p);
+  total_of = λ id. told_total t p (investee_of id p);
+  sheet_of = sheet_of t p;
+  book_total = book_total_of t p;
+  parts_answered = part-told t p;
+  totals_answered = total-told t p;
+  sheets_answered = sheet-told t p;
+  book_total_answered = refl;
+}
+
+-- ---- kilograms
+
+-- the kind of projects has its number alone
+kind-numbers : (k : Kind) → project_kind k ≡ eqb (kind_number k) (kind_number Project)
+kind-numbers Project = refl
+kind-numbers PropertyDevelopment = refl
+kind-numbers PropertyPurchase = refl
+kind-numbers Vehicle = refl
+kind-numbers GeneralLoan = refl
+kind-numbers Bond = refl
+
+projects-by-number : is_project ≡ is_of_kind Project
+projects-by-number = fun_ext (λ x. kind-numbers x.profile.kind)
+
 module _ (t : Tables) (p : PlainBook) (m : Measure) where
-  part-answered : (x : PlainInvestee) → investee_of (id_of x) p ≡ Some x → (b : ℕ) → Branch b → kilograms_in m (answer t p (ask_part (id_of x) b)) ≡ part (apportionment t p.positions m x) b
-  part-answered x found b h =
-      rw (in_range b h, found) (measured-both m (λ m. part (apportionment t p.positions m x) b))
+  part-answered : (x : PlainInvestee) → investee_of (id_of x) p ≡ Some x → (b : ℕ) → measured m ((all-answered t p).part_of (id_of x) b) ≡ part (apportionment t p.positions m x) b
+  part-answered x found b = rw found (measured-both m (λ m. part (apportionment t p.positions m x) b))
 
-  total-answered : (x : PlainInvestee) → investee_of (id_of x) p ≡ Some x → kilograms_in m (answer t p (ask_total (id_of x))) ≡ total (apportionment t p.positions m x)
+  total-answered : (x : PlainInvestee) → investee_of (id_of x) p ≡ Some x → measured m ((all-answered t p).total_of (id_of x)).kilograms ≡ total (apportionment t p.positions m x)
   total-answered x found = rw found (measured-both m (λ m. total (apportionment t p.positions m x)))
-
-  sheet-answered : (b : ℕ) → Branch b → kilograms_in m (answer t p (ask_sheet b)) ≡ sheet (apportionments t p m) b
-  sheet-answered b h = rw (in_range b h) (measured-both m (λ m. sheet (apportionments t p m) b))
 
   answered-as-defined : KeptByEveryRun p
       → AnsweredAsDefined (apportionments t p m)
-      (λ id branch. kilograms_in m (answer t p (ask_part id branch))) (λ id. kilograms_in m (answer t p (ask_total id)))
-      (λ branch. kilograms_in m (answer t p (ask_sheet branch))) (kilograms_in m (answer t p ask_book_total))
+      (λ id branch. measured m ((all-answered t p).part_of id branch)) (λ id. measured m ((all-answered t p).total_of id).kilograms)
+      (λ branch. measured m ((all-answered t p).sheet_of branch)) (measured m (all-answered t p).book_total.all.kilograms)
   answered-as-defined ok = record {
-    parts = All-map _ (apportionment t p.positions m) p.investees (All-weaker _ _ (λ x. part-answered x) p.investees (found-by-key id_of p.investees ok.ids_differ));
+    parts = All-map _ (apportionment t p.positions m) p.investees (All-weaker _ _ (λ x found b branch. part-answered x found b) p.investees (found-by-key id_of p.investees ok.ids_differ));
     totals = All-map _ (apportionment t p.positions m) p.investees (All-weaker _ _ (λ x. total-answered x) p.investees (found-by-key id_of p.investees ok.ids_differ));
-    sheets = sheet-answered;
+    sheets = λ b branch. measured-both m (λ m. sheet (apportionments t p m) b);
     book_total = measured-both m (λ m. book_total (apportionments t p m));
   }
 
@@ -101,40 +158,110 @@ module _ (t : Tables) (p : PlainBook) (m : Measure) where
       ∙ sum-split is_project (λ x. total (apportionment t p.positions m x)) p.investees ∙ sym (sum-map (apportionment t p.positions m) p.investees total)
 
 -- what is told for a group of the investees
-group-adds-up : (t : Tables) → Lawful t → (p : PlainBook) → KeptByEveryRun p → (m : Measure) (test : PlainInvestee → Bool) → GroupAddsUp t p m (answer t p) (filter test p.investees) (book_total (map (apportionment t p.positions m) (filter test p.investees)))
+group-adds-up : (t : Tables) → Lawful t → (p : PlainBook) → KeptByEveryRun p → (m : Measure) (test : PlainInvestee → Bool)
+    → GroupAddsUp t p m (answer t p) (all-answered t p) (filter test p.investees) (measured m (subtotal_of t p (filter test p.investees)).kilograms)
 group-adds-up t lawful p ok m test =
     let group = filter test p.investees in
-    record {
+    rw (measured-both m (λ n. book_total (map (apportionment t p.positions n) group))) (record {
       totals_add_up =
           sum-all group _ (λ x. total (apportionment t p.positions m x)) (All-weaker _ _ (λ x. total-answered t p m x) group (all_kept_by test _ p.investees (found-by-key id_of p.investees ok.ids_differ)))
           ∙ sym (sum-map (apportionment t p.positions m) group total);
       near_exact_sum = book-near (map (apportionment t p.positions m) group) (All-map Orderly (apportionment t p.positions m) group (all_kept_by test _ p.investees (orderly-each t lawful p m ok)));
-    }
+    })
 
 both-add : (m : Measure) (f g h : Measure → ℤ) → ((n : Measure) → f n +ℤ g n ≡ h n) → measured m (both f) +ℤ measured m (both g) ≡ measured m (both h)
 both-add m f g h e = ap₂ ◌+ℤ◌ (measured-both m f) (measured-both m g) ∙ e m ∙ sym (measured-both m h)
 
-pub kilograms-at : (t : Tables) → Lawful t → (p : PlainBook) → KeptByEveryRun p → (m : Measure) → KeepsEveryKilogram t p m (answer t p)
+kilograms-at : (t : Tables) → Lawful t → (p : PlainBook) → KeptByEveryRun p → (m : Measure) → KeepsEveryKilogram t p m (answer t p) (all-answered t p)
 kilograms-at t lawful p ok m = record {
   no_kilogram_gained_or_lost = kilograms-kept (apportionments t p m) (orderly t lawful p m ok) _ _ _ _ (answered-as-defined t p m ok);
-  projects_add_up = λ k e.
-      let same : book_total_of t p ≡ k = cc in
-      subst (λ k. GroupAddsUp t p m (answer t p) (filter is_project p.investees) (measured m k.projects.kilograms)) same
-      (rw (measured-both m (λ n. book_total (map (apportionment t p.positions n) (filter is_project p.investees)))) (group-adds-up t lawful p ok m is_project));
-  rest_adds_up = λ k e.
-      let same : book_total_of t p ≡ k = cc in
-      subst (λ k. GroupAddsUp t p m (answer t p) (filter (λ x. not (is_project x)) p.investees) (measured m k.rest.kilograms)) same
-      (rw (measured-both m (λ n. book_total (map (apportionment t p.positions n) (filter (λ x. not (is_project x)) p.investees)))) (group-adds-up t lawful p ok m (λ x. not (is_project x))));
-  projects_and_rest_make_all = λ k e.
-      let same : book_total_of t p ≡ k = cc in
-      subst (ProjectsAndRestMakeAll m) same (both-add m (λ n. book_total (map (apportionment t p.positions n) (filter is_project p.investees)))
-      (λ n. book_total (map (apportionment t p.positions n) (filter (λ x. not (is_project x)) p.investees))) _ (subtotals-add t p));
+  projects_add_up =
+      subst (λ (test : PlainInvestee → Bool). GroupAddsUp t p m (answer t p) (all-answered t p) (filter test p.investees) (measured m (subtotal_of t p (filter is_project p.investees)).kilograms))
+      projects-by-number (group-adds-up t lawful p ok m is_project);
+  rest_adds_up =
+      subst (λ (test : PlainInvestee → Bool). GroupAddsUp t p m (answer t p) (all-answered t p) (filter (λ x. not (test x)) p.investees) (measured m (subtotal_of t p (filter (λ x. not (is_project x)) p.investees)).kilograms))
+      projects-by-number (group-adds-up t lawful p ok m (λ x. not (is_project x)));
+  projects_and_rest_make_all = both-add m (λ n. book_total (map (apportionment t p.positions n) (filter is_project p.investees)))
+      (λ n. book_total (map (apportionment t p.positions n) (filter (λ x. not (is_project x)) p.investees))) _ (subtotals-add t p);
 }
 
-covers-told : (t : Tables) (p : PlainBook) (k : BookTotal) → answer t p ask_book_total ≡ Book k → CoversAreShares t p k
-covers-told t p k e =
-    let same : book_total_of t p ≡ k = cc in
-    subst (CoversAreShares t p) same (covers-shares t p)
+-- ---- reasons, covers and the mean grade
+
+filter-all : {X : Type 0} (f g : X → Bool) (xs : List X) → AllByRecursion (λ x. f x ≡ g x) xs → filter f xs ≡ filter g xs
+filter-all f g [] all = refl
+filter-all f g (x ∷ xs) all = ap₂ (λ t ys. cond t (x ∷ ys) ys) all.0 (filter-all f g xs all.1)
+
+filter-twice : {X : Type 0} (f g : X → Bool) (xs : List X) → filter f (filter g xs) ≡ filter (λ x. g x && f x) xs
+filter-twice f g [] = refl
+filter-twice {X} f g (x ∷ xs) = by (g x) (filter-twice f g xs)
+  where
+    by : (t : Bool) → filter f (filter g xs) ≡ filter (λ x. g x && f x) xs → filter f (cond t (x ∷ filter g xs) (filter g xs)) ≡ cond (t && f x) (x ∷ filter (λ x. g x && f x) xs) (filter (λ x. g x && f x) xs)
+    by true rest = ap (λ ys. cond (f x) (x ∷ ys) ys) rest
+    by false rest = rest
+
+filter-none : {X : Type 0} (xs : List X) → filter (λ x. true) xs ≡ xs
+filter-none [] = refl
+filter-none (x ∷ xs) = ap (λ ys. x ∷ ys) (filter-none xs)
+
+sum_by-all : {X : Type 0} (f g : X → ℕ) (xs : List X) → AllByRecursion (λ x. f x ≡ g x) xs → sum_by f xs ≡ sum_by g xs
+sum_by-all f g [] all = refl
+sum_by-all f g (x ∷ xs) all = omega (arith, sum_by-cons f x xs, sum_by-cons g x xs, all.0, sum_by-all f g xs all.1)
+
+module _ (t : Tables) (p : PlainBook) where
+  -- the answers of this book
+  abbrev answers : Answered p (answer t p)
+  answers = all-answered t p
+
+  abbrev Found : PlainInvestee → Type 0
+  Found x = investee_of (id_of x) p ≡ Some x
+
+  tells-why : (x : PlainInvestee) → Found x → TellsWhy t p (answer t p) answers x
+  tells-why x found = record {
+    reason_is_the_rule's = rw found refl;
+    grade_is_the_reading's = rw found refl;
+    no_part_with_a_reason = λ why b branch m. part-answered t p m x found b ∙ part-uncounted (apportionment t p.positions m x) b (uncounted why);
+    no_total_with_a_reason = λ why m.
+        total-answered t p m x found
+        ∙ sum-branches (part (apportionment t p.positions m x)) (λ b. pos 0) (λ b branch. part-uncounted (apportionment t p.positions m x) b (uncounted why)) ∙ sum-zero branches;
+  }
+    where
+      uncounted : (answers.total_of (id_of x)).reason ≢ 0 → is_counted t p.positions x ≡ false
+      uncounted why = ne_eqb (reason_of t p.positions x) 0 (λ e. why (rw found e))
+
+  counted-as-told : (x : PlainInvestee) → Found x → told_counted p (answer t p) answers x ≡ is_counted t p.positions x
+  counted-as-told x found = rw found refl
+
+  mean-told : AllByRecursion Found p.investees → MeanGradeIsNearest p (answer t p) answers
+  mean-told found =
+      let counted = filter (is_counted t p.positions) p.investees in
+      let same : filter (told_counted p (answer t p) answers) p.investees ≡ counted = filter-all _ (is_counted t p.positions) p.investees (All-weaker _ _ counted-as-told p.investees found) in
+      let grades : sum_by (λ x. exposure_to x p.positions * (answers.total_of (id_of x)).grade) counted ≡ sum_by (λ x. exposure_to x p.positions * x.grade) counted =
+      sum_by-all _ _ counted (All-weaker _ _ (λ x h. rw h refl) counted (all_kept_by (is_counted t p.positions) Found p.investees found)) in
+      rw (same, grades) (nearest-mean (sum_by (λ x. exposure_to x p.positions * x.grade) counted) (sum_by (λ x. exposure_to x p.positions) counted))
+
+  -- of the investees that pass a test
+  covers-of : KeptByEveryRun p → AllByRecursion Found p.investees → (test : PlainInvestee → Bool) → CoversOf p (answer t p) answers test (subtotal_of t p (filter test p.investees))
+  covers-of kept found test = record {
+    by_emissions = covers-by (covers t p emissions) (told_counted p (answer t p) answers) (λ x h. counted-as-told x h);
+    by_reductions = covers-by (covers t p reductions) (λ x. told_counted p (answer t p) answers x && x.reduced) (λ x h. ap (λ c. c && x.reduced) (counted-as-told x h));
+  }
+    where
+      covers-by : (covered as-told : PlainInvestee → Bool) → ((x : PlainInvestee) → Found x → as-told x ≡ covered x)
+          → IsShare (positions_on_those p (λ x. test x && as-told x)) (positions_on_those p test) (hundredths (positions_on_all p (filter covered (filter test p.investees))) (positions_on_all p (filter test p.investees)))
+      covers-by covered as-told same =
+          let both-tests : positions_on_all p (filter covered (filter test p.investees)) ≡ positions_on_those p (λ x. test x && as-told x) =
+          ap (positions_on_all p) (filter-twice covered test p.investees ∙ filter-all _ _ p.investees (All-weaker _ _ (λ x h. ap (λ c. test x && c) (sym (same x h))) p.investees found))
+          ∙ positions-on-those p kept (λ x. test x && as-told x) in
+          rw (both-tests, positions-on-those p kept test) (hundredths-share (positions_on_those p (λ x. test x && as-told x)) (positions_on_those p test))
+
+  covers-told : KeptByEveryRun p → AllByRecursion Found p.investees → CoversAreShares p (answer t p) answers
+  covers-told kept found = record {
+    of_projects = subst (λ (test : PlainInvestee → Bool). CoversOf p (answer t p) answers test (subtotal_of t p (filter is_project p.investees))) projects-by-number (covers-of kept found is_project);
+    of_rest = subst (λ (test : PlainInvestee → Bool). CoversOf p (answer t p) answers (λ x. not (test x)) (subtotal_of t p (filter (λ x. not (is_project x)) p.investees)))
+        projects-by-number (covers-of kept found (λ x. not (is_project x)));
+    of_all = subst (λ (xs : List PlainInvestee). CoversOf p (answer t p) answers (λ x. true) (subtotal_of t p xs)) (filter-none p.investees) (covers-of kept found (λ x. true));
+    all_positions = sym (positions-on-those p kept (λ x. true)) ∙ ap (positions_on_all p) (filter-none p.investees) ∙ each-on-one p kept;
+  }
 
 -- ---- runs
 
@@ -143,28 +270,71 @@ by-run t P keeps p [] limits ok = ok
 by-run t P keeps p (c ∷ calls) limits ok = by-run t P keeps (after t p c) calls limits.1 (keeps p c limits.0 ok)
 
 -- what each call keeps of a book that has what every run keeps, any run from the empty book comes to
-of-reached : (t : Tables) (P : PlainBook → Type 0) → P empty → ((p : PlainBook) (c : Step) → WithinSourceLimits c → KeptByEveryRun p → P p → P (after t p c)) → (p : PlainBook) → ReachedByARun t p → P p
+of-reached : (t : Tables) (P : PlainBook → Type 0) → P empty → ((p : PlainBook) (c : Step) → WithinSourceLimits c → KeptByEveryRun p → P p → P (after t p c)) → (p : PlainBook) → ReachedByARun t p → KeptByEveryRun p × P p
 of-reached t P at_first keeps p reached =
-    let kept : KeptByEveryRun (run t empty reached.0) × P (run t empty reached.0) =
-    by-run t (λ p. KeptByEveryRun p × P p) (λ p c limits ok. (kept-by-a-call t p c limits ok.0, keeps p c limits ok.0 ok.1)) empty reached.0 reached.1 (kept-at-first, at_first) in
-    subst P reached.2 kept.1
+    subst (λ p. KeptByEveryRun p × P p) reached.2
+    (by-run t (λ p. KeptByEveryRun p × P p) (λ p c limits ok. (kept-by-a-call t p c limits ok.0, keeps p c limits ok.0 ok.1)) empty reached.0 reached.1 (kept-at-first, at_first))
 
-pub at-each-point : (t : Tables) → Lawful t → (p : PlainBook) → KeptByEveryRun p → (calls : List Step) → AllByRecursion WithinSourceLimits calls → AtEachPoint t p calls
-at-each-point t lawful p ok calls limits k =
-    let kept = by-run t KeptByEveryRun (kept-by-a-call t) p (take k calls) (All-take WithinSourceLimits k calls limits) ok in
-    record {
-      kept = kept;
-      of_bonds = of-reached t KeptOfBonds bonds-at-first (λ p c limits. bonds-by-a-call t p c) (run t p (take k calls));
-      under_rule = of-reached t (KeptUnderRule t) (ruled-at-first t) (ruled-by-a-call t lawful) (run t p (take k calls));
-      orderly = λ m. orderly t lawful (run t p (take k calls)) m kept;
-      kilograms = kilograms-at t lawful (run t p (take k calls)) kept;
-      covers = covers-told t (run t p (take k calls));
-    }
+bonds-of-reached : (t : Tables) (p : PlainBook) → ReachedByARun t p → KeptByEveryRun p × KeptOfBonds p
+bonds-of-reached t p reached = of-reached t KeptOfBonds bonds-at-first (λ p c limits. bonds-by-a-call t p c) p reached
+
+rule-of-reached : (t : Tables) → Lawful t → (p : PlainBook) → ReachedByARun t p → KeptByEveryRun p × KeptUnderRule t p
+rule-of-reached t lawful p reached = of-reached t (KeptUnderRule t) (ruled-at-first t) (ruled-by-a-call t lawful) p reached
+
+holds-at : (t : Tables) → Lawful t → (p : PlainBook) → KeptByEveryRun p → HoldsAt t p
+holds-at t lawful p kept = record {
+  kept = kept;
+  of_bonds = λ reached. (bonds-of-reached t p reached).1;
+  under_rule = λ reached. (rule-of-reached t lawful p reached).1;
+  orderly = λ m. orderly t lawful p m kept;
+  answers = all-answered t p;
+  kilograms = kilograms-at t lawful p kept;
+  reasons = All-weaker _ _ (tells-why t p) p.investees (found-by-key id_of p.investees kept.ids_differ);
+  covers = covers-told t p kept (found-by-key id_of p.investees kept.ids_differ);
+  mean_grade = mean-told t p (found-by-key id_of p.investees kept.ids_differ);
+}
+
+holds-whole : (t : Tables) → Lawful t → (p : PlainBook) → ReachedByARun t p → HoldsWhole t p
+holds-whole t lawful p reached =
+    let bonds = bonds-of-reached t p reached in
+    record { reached = reached; of_bonds = bonds.1; under_rule = (rule-of-reached t lawful p reached).1; as_of_any = holds-at t lawful p bonds.0 }
+
+reached-more : (t : Tables) (p : PlainBook) (calls : List Step) → AllByRecursion WithinSourceLimits calls → ReachedByARun t p → ReachedByARun t (run t p calls)
+reached-more t p calls within (before, limits, led) = (before ++ calls, All-append WithinSourceLimits before calls limits within, run-append t empty before calls ∙ ap (λ q. run t q calls) led)
+
+from-the-start : (t : Tables) → Lawful t → (calls : List Step) → AllByRecursion WithinSourceLimits calls → AtEachPoint HoldsWhole t empty calls
+from-the-start t lawful calls within k = holds-whole t lawful (run t empty (take k calls)) (take k calls, All-take WithinSourceLimits k calls within, refl)
+
+pub holds-throughout : (t : Tables) → Lawful t → (p : PlainBook) → KeptByEveryRun p → (calls : List Step) → AllByRecursion WithinSourceLimits calls → HoldsThroughout t p calls (run t p calls)
+holds-throughout t lawful p ok calls within = record {
+  of_a_reached_book = λ reached. (
+    (λ k. holds-whole t lawful (run t p (take k calls)) (reached-more t p (take k calls) (All-take WithinSourceLimits k calls within) reached)),
+    reached-more t p calls within reached,
+  );
+  with_each_history = λ before fair same. from-the-start t lawful (before ++ calls) (All-append WithinSourceLimits before calls fair within);
+  of_any_book = λ k. holds-at t lawful (run t p (take k calls)) (by-run t KeptByEveryRun (kept-by-a-call t) p (take k calls) (All-take WithinSourceLimits k calls within) ok);
+}
+
+-- ---- kinds
+
+numbered : (k : Kind) → kind_numbered (kind_number k) ≡ Some k
+numbered Project = refl
+numbered PropertyDevelopment = refl
+numbered PropertyPurchase = refl
+numbered Vehicle = refl
+numbered GeneralLoan = refl
+numbered Bond = refl
+
+kind-of-number : (k l : Kind) → (eqb (kind_number k) (kind_number l) ≡ true) ↔ (k ≡ l)
+kind-of-number k l = (
+  (λ e. let same : Some k ≡ Some l = sym (numbered k) ∙ ap kind_numbered (eqb-true (kind_number k) (kind_number l) e) ∙ numbered l in cc same),
+  λ e. eq-eqb (kind_number k) (kind_number l) (ap kind_number e),
+)
 
 pub every-run-keeps : EveryRunKeepsEveryKilogram
 every-run-keeps = record {
-  from_the_start = λ t lawful calls limits. at-each-point t lawful empty kept-at-first calls limits;
-  going_on = at-each-point;
-  with_its_history = λ t lawful p calls limits before fair same. at-each-point t lawful empty kept-at-first (before ++ calls) (All-append WithinSourceLimits before calls fair limits);
-  under_its_rule = λ t lawful p reached. of-reached t (KeptUnderRule t) (ruled-at-first t) (ruled-by-a-call t lawful) p reached;
+  from_the_start = from-the-start;
+  where_reached = holds-whole;
+  going_on = holds-throughout;
+  kinds_by_number = λ kind x. kind-of-number x.profile.kind kind;
 }

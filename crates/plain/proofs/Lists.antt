@@ -15,7 +15,7 @@ all_both P Q (x ∷ xs) p q = ((p.0, q.0), all_both P Q xs p.1 q.1)
 
 -- ---- the first that passes a test
 
-is_find : {X : Type 0} (test : X → Bool) (xs : List X) → first_of test xs ≡ find test xs
+pub is_find : {X : Type 0} (test : X → Bool) (xs : List X) → first_of test xs ≡ find test xs
 unfolding first_of
 is_find test = same_from_clauses (first_of test) (find test) (λ x r. cond (test x) (Some x) r) refl (λ x xs. refl) (λ x xs. refl)
 

@@ -1,20 +1,28 @@
 -- Each of the simpler ways breaks the relation at a named place.
-use Rattle.std.proofs.Common.{◌≡◌, ℕ, ◌≢◌, List, [], ◌∷◌, ℤ, pos, nat_abs, sym, refl, ap, ◌∙◌, subst, arith, lit≤, rules}
+use Rattle.std.proofs.Common.{◌≡◌, ℕ, ◌≢◌, List, [], ◌∷◌, ℤ, pos, nat_abs, Some, sym, refl, ap, ◌∙◌, subst, arith, lit≤, rules}
 use borrow.Author.Differences.{ints}
 use Rattle.std.specs.List.{AllByRecursion}
+use Rattle.faults.specs.declared.Fault.{Fault}
 use Rattle.rules.specs.National.{national_tables}
+use Rattle.sources.specs.Readings.{reading}
+use Rattle.sources.specs.declared.reading.Reading.{Reading}
+use Rattle.plain.specs.declared.answers.Answer.{Answer}
+use Rattle.plain.specs.declared.answers.Answer.TheVariants.{Declined, Part, Total, Book}
+use Rattle.plain.specs.declared.answers.InvesteeTotal.{InvesteeTotal}
+use Rattle.plain.specs.Answered.{Answered}
 use Rattle.plain.specs.Branches.{Branch, branches}
-use Rattle.plain.specs.EveryRun.{kilograms_in, ReachedByARun}
+use Rattle.plain.specs.EveryRun.{KeepsEveryKilogram, ReachedByARun}
 use Rattle.plain.specs.Exposures.{emissions}
 use Rattle.plain.specs.Kilograms.{PartsMakeTheTotal}
 use Rattle.plain.specs.Lists.{first_of, change_first}
-use Rattle.plain.specs.Parts.{Apportionment, exposures, exposure_at, share}
-use Rattle.plain.specs.PlainBook.{PlainBook}
+use Rattle.plain.specs.Parts.{Apportionment, exposures, exposure_at, exposure_before, share}
+use Rattle.plain.specs.PlainBook.{PlainInvestee, PlainBook, investee_of}
 use Rattle.plain.specs.Rounding.{rounded, PartNearShare}
-use Rattle.plain.specs.ShutOut.{thirds, unequal, four_months, lent_to, HasToPart, Way, all_to_the_first, nothing_to_anybody, rounded_by_itself, capped_by_itself, over_months_posted, GainsOrLoses, SimplerAnswersShutOut}
-use Rattle.plain.specs.Steps.{Step, enter, post, ask_part, ask_total}
+use Rattle.plain.specs.ShutOut.{thirds, unequal, four_months, lent_to, HasToPart, Way, all_to_the_first, nothing_to_anybody, rounded_by_itself, capped_by_itself, over_months_posted, Loses, GainsOrLoses, DeclinesEverything, thirds_of_999, OpenedWith1000, SimplerAnswersShutOut}
+use Rattle.plain.specs.Runs.{answer}
+use Rattle.plain.specs.Steps.{Step, enter, post, ask_part, ask_total, ask_book_total}
 use Rattle.plain.specs.Sums.{sum_over, down_from}
-use Rattle.plain.specs.Worked.{accounts, company, reads, posts}
+use Rattle.plain.specs.Worked.{accounts, company, reads, posts, kilograms, totalled}
 use Rattle.plain.proofs.Sums.{sum-branches}
 
 first-branch : Branch 1
@@ -51,11 +59,17 @@ of_four_months = refl
 abbrev NoTotal : Apportionment → Way → Type 0
 NoTotal a way = (f : ℕ → ℤ) (n : ℤ) → ((b : ℕ) → Branch b → f b ≡ way a b) → PartsMakeTheTotal a f n → ⊥
 
+-- of the one investee
+of-investee-7 : (p : PlainBook) (es : List ℕ) → HasToPart p es → (ask : Step → Answer) (answers : Answered p ask) → KeepsEveryKilogram national_tables p emissions ask answers
+    → PartsMakeTheTotal (lent_to es) (λ b. (answers.part_of 7 b).emissions) (answers.total_of 7).kilograms.emissions
+of-investee-7 p es is ask answers keeps =
+    (subst (AllByRecursion (λ a. PartsMakeTheTotal a (λ b. (answers.part_of a.id b).emissions) (answers.total_of a.id).kilograms.emissions)) is keeps.no_kilogram_gained_or_lost.of_each_investee).0
+
 for-its-book : (p : PlainBook) (es : List ℕ) (way : Way) → HasToPart p es → NoTotal (lent_to es) way → GainsOrLoses p way
-for-its-book p es way is none ask parted keeps =
-    none (λ b. kilograms_in emissions (ask (ask_part 7 b))) (kilograms_in emissions (ask (ask_total 7)))
-    (subst (AllByRecursion (λ a. (b : ℕ) → Branch b → kilograms_in emissions (ask (ask_part a.id b)) ≡ way a b)) is parted).0
-    (subst (AllByRecursion (λ a. PartsMakeTheTotal a (λ b. kilograms_in emissions (ask (ask_part a.id b))) (kilograms_in emissions (ask (ask_total a.id))))) is keeps.no_kilogram_gained_or_lost.of_each_investee).0
+for-its-book p es way is none ask answers parted keeps =
+    none (λ b. (answers.part_of 7 b).emissions) (answers.total_of 7).kilograms.emissions
+    (subst (AllByRecursion (λ a. (b : ℕ) → Branch b → (answers.part_of a.id b).emissions ≡ way a b)) is parted).0
+    (of-investee-7 p es is ask answers keeps)
 
 -- ---- the ways
 
@@ -106,6 +120,49 @@ months-posted f n same one =
     let near = subst (λ n. PartNearShare n (share (lent_to (40000 ∷ [])) 1)) over-four (near-first _ (over_months_posted 40000) f n same one) in
     omega (arith, near)
 
+-- ---- refusals, and figures that no source has read
+
+everything-declined : (p : PlainBook) (ask : Step → Answer) → DeclinesEverything ask → Answered p ask → ⊥
+everything-declined p ask declines answers =
+    let e : Declined (declines ask_book_total).0 ≡ Book answers.book_total = sym (declines ask_book_total).1 ∙ answers.book_total_answered in
+    absurd cc
+
+one-part-declined : (ask : Step → Answer) (f : Fault) → ask (ask_part 7 2) ≡ Declined f → Answered thirds ask → ⊥
+unfolding first_of change_first exposures
+one-part-declined ask f declined answers =
+    let e : Declined f ≡ Part (answers.part_of 7 2) = sym declined ∙ answers.parts_answered 7 2 refl (lit≤ tt, lit≤ tt) in
+    absurd cc
+
+another-total : (ask : Step → Answer) (answers : Answered thirds ask) → (answers.total_of 7).kilograms.emissions ≢ pos 1000 → Loses thirds ask answers
+unfolding exposures
+another-total ask answers other keeps =
+    other (((of-investee-7 thirds (40000 ∷ 40000 ∷ 40000 ∷ []) of_thirds ask answers keeps).total_is_figure_iff_exposures_reach refl not-zero).1 (lit≤ tt))
+
+told-999 : answer national_tables thirds_of_999 (ask_total 7) ≡ totalled (pos 999) 0
+unfolding rounded exposures exposure_at exposure_before sum_over down_from first_of change_first
+told-999 = refl
+
+not-999 : pos 999 ≢ pos 1000
+not-999 e = omega (arith, ints)
+
+emissions-in : (k : InvesteeTotal) (n : ℤ) → Total k ≡ totalled n 0 → k.kilograms.emissions ≡ n
+emissions-in k n e = let same : k ≡ record { kilograms = kilograms n (pos 0); reason = 0; grade = 1 } = cc e in ap (λ (k : InvesteeTotal). k.kilograms.emissions) same
+
+total-of-999 : (answers : Answered thirds (answer national_tables thirds_of_999)) → (answers.total_of 7).kilograms.emissions ≡ pos 999
+unfolding first_of change_first exposures
+total-of-999 answers =
+    emissions-in (answers.total_of 7) (pos 999) (sym (answers.totals_answered 7 refl) ∙ told-999)
+
+of-999 : (answers : Answered thirds (answer national_tables thirds_of_999)) → Loses thirds (answer national_tables thirds_of_999) answers
+of-999 answers = another-total (answer national_tables thirds_of_999) answers (λ e. not-999 (sym (total-of-999 answers) ∙ e))
+
+opened-otherwise : (q : PlainBook) (x : PlainInvestee) → investee_of 7 q ≡ Some x → x.kilograms ≢ pos 1000 → OpenedWith1000 q → ⊥
+opened-otherwise q x found other opened =
+    let one = opened.investee in
+    let same : x ≡ one.1 = let e : Some x ≡ Some one.1 = sym found ∙ one.3 in cc e in
+    let as-read : one.0.kilograms ≡ pos 1000 = let e : one.0 ≡ reading (pos 1000) 1 = cc one.2 in ap (λ (r : Reading). r.kilograms) e in
+    other (ap (λ (y : PlainInvestee). y.kilograms) same ∙ one.4.kilograms ∙ as-read)
+
 pub shut_out : SimplerAnswersShutOut
 shut_out = record {
   reached_by_runs = reached_by_runs;
@@ -117,4 +174,9 @@ shut_out = record {
   each_branch_rounded_by_itself = for-its-book thirds (40000 ∷ 40000 ∷ 40000 ∷ []) rounded_by_itself of_thirds rounded-alone;
   cap_taken_by_each_branch = for-its-book unequal (120000 ∷ 60000 ∷ []) capped_by_itself of_unequal capped-alone;
   divided_by_months_posted = for-its-book four_months (40000 ∷ []) (over_months_posted 40000) of_four_months months-posted;
+  everything_declined = everything-declined;
+  one_part_declined = one-part-declined;
+  another_total = another-total;
+  answers_of_a_book_with_another_figure = of-999;
+  a_book_with_another_figure = opened-otherwise;
 }

@@ -15,6 +15,8 @@ pub mod Refused
 pub mod Readings
 pub mod Runs
 pub mod Kept
+pub mod EachCall
+pub mod Answered
 pub mod Covers
 pub mod EveryRun
 pub mod Worked

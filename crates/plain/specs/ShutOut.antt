@@ -1,18 +1,23 @@
 -- Ways of parting a figure that look simpler. Each is shut out for a worked book that a run has come to: no answers to its readings
 -- keep every kilogram if their parts are found in that way, whatever total, sheets and book total are answered with them.
-use Rattle.std.specs.Prelude.{◌≡◌, ℕ, suc, max, true, cond, List, [], ◌∷◌, ℤ, pos, ◌==◌}
+-- Refusals in place of figures are shut out too, and figures that no source has read.
+use Rattle.std.specs.Prelude.{◌≡◌, ℕ, suc, max, true, cond, ◌≢◌, List, [], ◌∷◌, ℤ, pos, Some, ◌==◌}
 use Rattle.std.specs.List.{AllByRecursion}
+use Rattle.faults.specs.declared.Fault.{Fault}
 use Rattle.rules.specs.National.{national_tables}
 use Rattle.plain.specs.declared.answers.Answer.{Answer}
+use Rattle.plain.specs.declared.answers.Answer.TheVariants.{Declined}
+use Rattle.plain.specs.Answered.{Answered}
 use Rattle.plain.specs.Branches.{Branch}
-use Rattle.plain.specs.EveryRun.{kilograms_in, KeepsEveryKilogram, ReachedByARun}
+use Rattle.plain.specs.EachCall.{Enters}
+use Rattle.plain.specs.EveryRun.{KeepsEveryKilogram, ReachedByARun}
 use Rattle.plain.specs.Exposures.{emissions, apportionments}
 use Rattle.plain.specs.Parts.{Lent, at_least, Apportionment, exposures, exposure_at, base_of, base}
-use Rattle.plain.specs.PlainBook.{PlainBook}
+use Rattle.plain.specs.PlainBook.{PlainInvestee, PlainBook, empty, investee_of}
 use Rattle.plain.specs.Rounding.{rounded}
-use Rattle.plain.specs.Runs.{run}
+use Rattle.plain.specs.Runs.{answer, run}
 use Rattle.plain.specs.Steps.{Step, post, ask_part}
-use Rattle.plain.specs.Worked.{lent}
+use Rattle.plain.specs.Worked.{accounts, company, reads, lent}
 
 -- ---- books with one investee, that emits 1,000 kg and has a revenue of 10,000 wan
 
@@ -70,12 +75,31 @@ abbrev pub over_months_posted : ℕ → Way
 over_months_posted w a b = rounded a.figure (exposure_at a.lent b) (max w (exposures a.lent))
 
 -- the answers give each branch its part of each investee in this way
-abbrev pub PartedBy : Way → PlainBook → (Step → Answer) → Type 0
-PartedBy way p ask = AllByRecursion (λ a. (b : ℕ) → Branch b → kilograms_in emissions (ask (ask_part a.id b)) ≡ way a b) (apportionments national_tables p emissions)
+abbrev pub PartedBy : Way → (p : PlainBook) (ask : Step → Answer) → Answered p ask → Type 0
+PartedBy way p ask answers = AllByRecursion (λ a. (b : ℕ) → Branch b → (answers.part_of a.id b).emissions ≡ way a b) (apportionments national_tables p emissions)
+
+-- the emissions that such answers tell are not kept
+abbrev pub Loses : (p : PlainBook) (ask : Step → Answer) → Answered p ask → Type 0
+Loses p ask answers = KeepsEveryKilogram national_tables p emissions ask answers → ⊥
 
 -- and then they gain or lose a kilogram
 abbrev pub GainsOrLoses : PlainBook → Way → Type 0
-GainsOrLoses p way = (ask : Step → Answer) → PartedBy way p ask → KeepsEveryKilogram national_tables p emissions ask → ⊥
+GainsOrLoses p way = (ask : Step → Answer) (answers : Answered p ask) → PartedBy way p ask answers → Loses p ask answers
+
+-- ---- refusals in place of figures
+
+abbrev pub DeclinesEverything : (Step → Answer) → Type 0
+DeclinesEverything ask = (c : Step) → (f : Fault) × (ask c ≡ Declined f)
+
+-- ---- figures that no source has read
+
+-- thirds, where the source read 999 kg in place of 1,000
+abbrev pub thirds_of_999 : PlainBook
+thirds_of_999 = lent (pos 999) (40000 ∷ 40000 ∷ 40000 ∷ [])
+
+-- q comes of the opening of investee 7 in an empty book, with a reading of 1,000 kg
+abbrev pub OpenedWith1000 : PlainBook → Type 0
+OpenedWith1000 q = Enters (company 5 (accounts 10000 0)) (reads (pos 1000)) empty q
 
 -- the books, and each way with a book that shuts it out
 pub record SimplerAnswersShutOut : Type 0 where
@@ -89,3 +113,11 @@ pub record SimplerAnswersShutOut : Type 0 where
   pub cap_taken_by_each_branch : GainsOrLoses unequal capped_by_itself
   -- four months of 10,000
   pub divided_by_months_posted : GainsOrLoses four_months (over_months_posted 40000)
+  -- refusals are no answers, be it all of them, or one for the part of one branch
+  pub everything_declined : (p : PlainBook) (ask : Step → Answer) → DeclinesEverything ask → Answered p ask → ⊥
+  pub one_part_declined : (ask : Step → Answer) (f : Fault) → ask (ask_part 7 2) ≡ Declined f → Answered thirds ask → ⊥
+  -- all is lent to the investee, so that its total is what the source has read: no other is, nor are the answers of a book with another figure
+  pub another_total : (ask : Step → Answer) (answers : Answered thirds ask) → (answers.total_of 7).kilograms.emissions ≢ pos 1000 → Loses thirds ask answers
+  pub answers_of_a_book_with_another_figure : (answers : Answered thirds (answer national_tables thirds_of_999)) → Loses thirds (answer national_tables thirds_of_999) answers
+  -- and no such book comes of the opening
+  pub a_book_with_another_figure : (q : PlainBook) (x : PlainInvestee) → investee_of 7 q ≡ Some x → x.kilograms ≢ pos 1000 → OpenedWith1000 q → ⊥

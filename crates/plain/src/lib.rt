@@ -2,6 +2,7 @@
 #![tactic(auto)]
 
 ghost use Rattle.plain.specs.Due.{RefusedWhenDue};
+ghost use Rattle.plain.specs.EachCall.{EachCallChangesWhatItNames};
 ghost use Rattle.plain.specs.EveryRun.{EveryRunKeepsEveryKilogram};
 ghost use Rattle.plain.specs.Kept.{KeptByEachCall};
 ghost use Rattle.plain.specs.Kilograms.{TotalIsRoundedOnce};
@@ -51,4 +52,9 @@ pub fn worked_refusals()
 // A year of all kinds of calls, with every figure of its book total.
 pub fn worked_year()
     ensures { WorkedYear }
+{}
+
+// Each call changes what it names, and nothing else.
+pub fn each_call_changes_what_it_names()
+    ensures { EachCallChangesWhatItNames }
 {}

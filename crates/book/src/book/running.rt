@@ -1,6 +1,6 @@
 // Any calls, one by one or a whole run of them.
 ghost use Rattle.std.specs.Prelude.{◌≡◌, min, ◌++◌, length, take, drop};
-ghost use Rattle.plain.specs.EveryRun.{AtEachPoint, AtEachPointFromTheStart, ReachedByARun};
+ghost use Rattle.plain.specs.EveryRun.{HoldsThroughout};
 ghost use Rattle.plain.specs.Runs.{after, answer, answered, run};
 ghost use Rattle.book.specs.Calls.{step_of, steps_of};
 ghost use Rattle.book.specs.View.{plain};
@@ -51,9 +51,7 @@ impl<'r, R: Rule> Book<'r, R> {
         ensures book { plain self.new ≡ run (R.tables self.old.rule.now) (plain self.old) (steps_of S.meaning (take result calls.now)) }
         ensures told { answers.new ≡ answered (R.tables self.old.rule.now) (plain self.old) (steps_of S.meaning (take result calls.now)) ++ drop result answers.old }
         ensures rule { self.new.rule ≡ self.old.rule }
-        ensures kilograms { AtEachPoint (R.tables self.old.rule.now) (plain self.old) (steps_of S.meaning (take result calls.now)) }
-        ensures history { AtEachPointFromTheStart (R.tables self.old.rule.now) (plain self.old) (steps_of S.meaning (take result calls.now)) }
-        ensures reached { ReachedByARun (R.tables self.old.rule.now) (plain self.old) → ReachedByARun (R.tables self.new.rule.now) (plain self.new) }
+        ensures throughout { HoldsThroughout (R.tables self.old.rule.now) (plain self.old) (steps_of S.meaning (take result calls.now)) (plain self.new) }
     {
         let count = calls.len().min(answers.len());
         // By index: after a `zip` with `iter_mut` a proof knows nothing, and `enumerate` over the answers would go by index too.

@@ -1,11 +1,10 @@
-use Rattle.std.proofs.Common.{◌≡◌, ◌<◌, length, take, sym, ap, ◌∙◌, subst, arith}
+use Rattle.std.proofs.Common.{◌≡◌, ◌<◌, length, take, ap, ◌∙◌, arith}
 use Rattle.std.proofs.lemmas.List.{get_or-take, length-take}
-use Rattle.plain.specs.EveryRun.{ReachedByARun}
 use Rattle.plain.specs.Runs.{after, answer, run}
 use Rattle.book.specs.Calls.{step_of, steps_of}
 use Rattle.book.specs.View.{plain}
 use Rattle.book.proofs.Propositions.{kept_of}
-use Rattle.book.proofs.Runs.{sofar-more, kilograms-here, kilograms-from-the-start, reached-more}
+use Rattle.book.proofs.Runs.{sofar-more, throughout}
 use Rattle.book.proofs.book.Book.run.Goals as goal
 
 pub loop-i-preserved : goal.loop-i-preserved
@@ -24,20 +23,11 @@ loop-i-preserved g c =
           c.loop-i.invariant.1,
     )
 
-pub returns-clause-kilograms : goal.returns-clause-kilograms
-returns-clause-kilograms g c =
-    let from = plain c.args.self.now in
-    kilograms-here (g.R.Rule.tables c.args.self.now.rule.now) (g.R.Rule.lawful c.args.self.now.rule.now) g.S.Source.meaning g.S.Source.within from (take c.min-count.result c.args.calls.now) (kept_of from c.args.self.now.kept)
-
-pub returns-clause-history : goal.returns-clause-history
-returns-clause-history g c =
-    kilograms-from-the-start (g.R.Rule.tables c.args.self.now.rule.now) (g.R.Rule.lawful c.args.self.now.rule.now) g.S.Source.meaning g.S.Source.within (plain c.args.self.now) (take c.min-count.result c.args.calls.now)
-
-pub returns-clause-reached : goal.returns-clause-reached
-returns-clause-reached g c h =
+pub returns-clause-throughout : goal.returns-clause-throughout
+returns-clause-throughout g c =
     let t = g.R.Rule.tables c.args.self.now.rule.now in
     let from = plain c.args.self.now in
     let m = g.S.Source.meaning in
     let end : c.loop-i.i ≡ c.min-count.result = omega (arith, c.min-count.ensures, length-take c.min-count.result c.args.calls.now) in
     let book = c.loop-i.invariant.1.book ∙ ap (λ n. run t from (steps_of m (take n c.args.calls.now))) end in
-    subst (λ r. ReachedByARun (g.R.Rule.tables r.now) (plain c.loop-i.self)) (sym c.loop-i.invariant.0) (reached-more t (g.R.Rule.lawful c.args.self.now.rule.now) m g.S.Source.within from (take c.min-count.result c.args.calls.now) (plain c.loop-i.self) book h)
+    throughout t (g.R.Rule.lawful c.args.self.now.rule.now) m g.S.Source.within from (plain c.loop-i.self) (take c.min-count.result c.args.calls.now) (kept_of from c.args.self.now.kept) book
