@@ -70,7 +70,7 @@ decimals-free sep [] below small = tt
 decimals-free sep (n ∷ ns) below small = (decimal-free sep n below small.0, decimals-free sep ns below small.1)
 
 -- the numbers of fields, both ways
-read-printed : (p : ℕ) (ns : List ℕ) → AllByRecursion (λ n. n < 10 ^ 13) ns → numbers_of (length ns) p (map decimal ns) ≡ Ok (ns, [])
+pub read-printed : (p : ℕ) (ns : List ℕ) → AllByRecursion (λ n. n < 10 ^ 13) ns → numbers_of (length ns) p (map decimal ns) ≡ Ok (ns, [])
 read-printed p [] small = refl
 read-printed p (n ∷ ns) small =
     ap (λ o. first p o (numbers_of (length ns) (suc p) (map decimal ns))) (number-from-spells (decimal n) n (refl, small.0)) ∙ ap (first p (Some n)) (read-printed (suc p) ns small.1)
@@ -80,7 +80,7 @@ pub record Fields (k : ℕ) (ns : List ℕ) (fs : List (List ℕ)) : Type 0 wher
   pub small : AllByRecursion (λ n. n < 10 ^ 13) ns
   pub spelled : fs ≡ map decimal ns
 
-fields_read : (k p : ℕ) (fs : List (List ℕ)) (ns : List ℕ) → numbers_of k p fs ≡ Ok (ns, []) → Fields k ns fs
+pub fields_read : (k p : ℕ) (fs : List (List ℕ)) (ns : List ℕ) → numbers_of k p fs ≡ Ok (ns, []) → Fields k ns fs
 fields_read zero p fs ns h =
     let pair : ◌≡◌ {A = List ℕ × List (List ℕ)} ([], fs) (ns, []) = cc in
     let none : ns ≡ [] = sym (ap (λ x. x.0) pair) in

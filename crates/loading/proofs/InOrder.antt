@@ -17,7 +17,7 @@ use Rattle.plain.specs.Refused.{declined}
 use Rattle.plain.specs.Runs.{after, run, unless}
 use Rattle.plain.specs.Steps.{Step, WithinSourceLimits}
 use Rattle.portfolio.specs.Layout.{layout_of}
-use Rattle.portfolio.specs.Refused.{RefusesRightly}
+use Rattle.portfolio.specs.Refused.{Refused, RefusesRightly}
 use Rattle.portfolio.specs.Text.{AcceptsTexts, IsTextOf}
 use Rattle.loading.specs.Loading.{EnteredInOrder, LoadsPortfolios, entered, entered_from, loading_of}
 use Rattle.loading.specs.Trying.{Outcome, outcome, tried, Ended, all_accepted, next_declined, TriedInOrder, entries_of, first_entry_line, opening, posting}
@@ -107,11 +107,13 @@ loads-from bytes (Ok f) laid accepts refuses =
     record {
       of_a_portfolio = λ g is. let same : f ≡ g = cc ((accepts g).1 is) in subst (λ h. EnteredInOrder h (entered f)) same (entered-in-order f);
       of_no_other = (f, (accepts f).0 refl, entered-in-order f);
+      refused = λ s. (λ is. let z : ◌≡◌ {A = ℕ} 0 1 = cc in absurd (omega arith), λ stop. let z : ◌≡◌ {A = ℕ} 0 1 = cc ((refuses s).1 stop) in absurd (omega arith));
     }
 loads-from bytes (Err s) stops accepts refuses =
     record {
       of_a_portfolio = λ g is. none g is;
-      of_no_other = (stops, refuses, none);
+      of_no_other = (stops, none);
+      refused = λ t. (λ is. let same : s ≡ t = cc in subst (Refused bytes) same ((refuses s).0 refl), λ stop. let same : s ≡ t = cc ((refuses t).1 stop) in ap Err same);
     }
   where
     none : (g : PlainPortfolio) → IsTextOf g bytes → ⊥

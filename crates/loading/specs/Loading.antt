@@ -8,7 +8,7 @@ use Rattle.plain.specs.EveryRun.{HoldsWhole}
 use Rattle.plain.specs.PlainBook.{empty}
 use Rattle.book.specs.View.{plain}
 use Rattle.portfolio.specs.Layout.{layout_of}
-use Rattle.portfolio.specs.Refused.{Refused}
+use Rattle.portfolio.specs.Refused.{RefusesRightly}
 use Rattle.portfolio.specs.Text.{IsTextOf}
 use Rattle.loading.specs.Trying.{Outcome, TriedInOrder, entries_of, first_entry_line, tried}
 use Rattle.loading.specs.declared.loaded.Loaded.{Loaded}
@@ -49,13 +49,14 @@ abbrev pub EnteredAs : PlainPortfolio → Result PlainLoaded Stop → Type 0
 EnteredAs f (Ok l) = EnteredInOrder f l
 EnteredAs f (Err s) = ⊥
 
--- a book has come of a portfolio whose text the bytes are; bytes without a book are the text of none, and stop where the layout
--- does: beyond the limits of a file, or at the first line that is not as laid out
+-- a book has come of a portfolio whose text the bytes are; bytes without a book are the text of none, and stop where the layout does
 abbrev pub HasComeOf : List ℕ → Result PlainLoaded Stop → Type 0
 HasComeOf bytes (Ok l) = (f : PlainPortfolio) × IsTextOf f bytes × EnteredInOrder f l
-HasComeOf bytes (Err s) = (layout_of bytes ≡ Err s) × Refused bytes s × ((f : PlainPortfolio) → IsTextOf f bytes → ⊥)
+HasComeOf bytes (Err s) = (layout_of bytes ≡ Err s) × ((f : PlainPortfolio) → IsTextOf f bytes → ⊥)
 
--- Exactly the texts of portfolios give a book.
+-- Exactly the texts of portfolios give a book. All other bytes are refused, for the one reason that holds of them: that they are beyond
+-- the limits of a file, or the first line that is not as laid out.
 pub record LoadsPortfolios (bytes : List ℕ) (r : Result PlainLoaded Stop) : Type 0 where
   pub of_a_portfolio : (f : PlainPortfolio) → IsTextOf f bytes → EnteredAs f r
   pub of_no_other : HasComeOf bytes r
+  pub refused : RefusesRightly bytes r

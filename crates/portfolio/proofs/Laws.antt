@@ -126,11 +126,11 @@ frees-balances (p ∷ posts) digits = (row-free (p.balance ∷ []) digits.0.1.1.
 
 -- ---- from the bytes to the text
 
-then_ok : {X Y : Type 0} (r : Result X Stop) (f : X → Result Y Stop) (y : Y) → and_then r f ≡ Ok y → (x : X) × (r ≡ Ok x) × (f x ≡ Ok y)
+pub then_ok : {X Y : Type 0} (r : Result X Stop) (f : X → Result Y Stop) (y : Y) → and_then r f ≡ Ok y → (x : X) × (r ≡ Ok x) × (f x ≡ Ok y)
 then_ok (Ok x) f y h = (x, refl, h)
 then_ok (Err s) f y h = let z : ◌≡◌ {A = ℕ} 0 1 = cc in absurd (omega arith)
 
-ended-ok : {X : Type 0} (l : ℕ) (ps : List (List ℕ)) (x y : X) → ended l ps x ≡ Ok y → (ps ≡ [] ∷ []) × (x ≡ y)
+pub ended-ok : {X : Type 0} (l : ℕ) (ps : List (List ℕ)) (x y : X) → ended l ps x ≡ Ok y → (ps ≡ [] ∷ []) × (x ≡ y)
 ended-ok l [] x y h = let z : ◌≡◌ {A = ℕ} 0 1 = cc in absurd (omega arith)
 ended-ok l ([] ∷ []) x y h = let same : x ≡ y = cc in (refl, same)
 ended-ok l ((b ∷ bs) ∷ []) x y h = let z : ◌≡◌ {A = ℕ} 0 1 = cc in absurd (omega arith)

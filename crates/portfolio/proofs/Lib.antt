@@ -1,4 +1,5 @@
 mod Laws
+mod OneStop
 mod Refusing
 mod Sections
 mod Steps

@@ -1,9 +1,10 @@
 -- The line of an investee as a program holds it.
-use Rattle.std.proofs.Common.{◌≡◌, ℕ, ◌≤◌, ltb, List, [], ◌∷◌, length, Ok, Err, sym, refl, ap, ◌∙◌, arith}
+use Rattle.std.proofs.Common.{◌≡◌, ℕ, ◌≤◌, ltb, List, [], ◌∷◌, length, Ok, Err, Result, sym, refl, ap, ◌∙◌, arith}
 use Rattle.std.proofs.lemmas.Bool.{le-ltb, cond-false}
 use Rattle.entries.specs.Entries.{PlainMethod, PlainEntry, held_entry}
 use Rattle.entries.specs.declared.investee.InvesteeEntry.{InvesteeEntry}
 use Rattle.portfolio_lines.specs.declared.misread.Misread.{Misread}
+use Rattle.portfolio_lines.specs.declared.misread.Misread.TheVariants.{Field}
 use Rattle.portfolio_lines.specs.Counted.{FieldsLeft, Reading, and_then, fields_of, numbers_in, none_left, none_at}
 use Rattle.portfolio_lines.specs.Lines.{entry_of, entry_in, investee_of, held_in, held_line}
 use Rattle.portfolio_lines.specs.Methods.{method_in, held}
@@ -44,3 +45,10 @@ line-wrong line f p short is reads = sym (by-fields line f (Err p) short is read
 
 pub line_read : (line : List ℕ) (f left : FieldsLeft) (e : InvesteeEntry) (u : Unit {0}) → length line ≤ 511 → f ≡ fields_of line → held_in (entry_in f) ≡ Ok (e, left) → Ok u ≡ none_left tt left → Ok e ≡ held_line (investee_of line)
 line_read line f left e u short is reads none = sym (by-fields line f (Ok (e, left)) short is reads ∙ none-gives e left.place left.left u none)
+
+none-stops : {X : Type 0} (x : X) (place : ℕ) (fs : List (List ℕ)) (p : Misread) → ◌≡◌ {A = Result (Unit {0}) Misread} (Err p) (none_at tt place fs) → none_at x place fs ≡ Err p
+none-stops x place [] p h = let z : ◌≡◌ {A = ℕ} 0 1 = cc in absurd (omega arith)
+none-stops x place (f ∷ fs) p h = let same : p ≡ Field place = cc in ap Err (sym same)
+
+pub line-surplus : (line : List ℕ) (f left : FieldsLeft) (e : InvesteeEntry) (p : Misread) → length line ≤ 511 → f ≡ fields_of line → held_in (entry_in f) ≡ Ok (e, left) → ◌≡◌ {A = Result (Unit {0}) Misread} (Err p) (none_left tt left) → Err p ≡ held_line (investee_of line)
+line-surplus line f left e p short is reads none = sym (by-fields line f (Ok (e, left)) short is reads ∙ none-stops e left.place left.left p none)

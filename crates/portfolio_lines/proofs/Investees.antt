@@ -106,7 +106,7 @@ method-read f x h =
     let (same, w) = by-letter y.0 f.place y.1 x rest in
     (letter-read f.place f.left y letter ∙ (λ t. (same t ∷ []) ∷ w.spelled t), w.small)
 
-numbers-method : (p : ℕ) (m : PlainMethod) (fs gs : List (List ℕ)) → Written (method_numbers m) fs gs → (q : ℕ) × (method_in (record { place = p; left = (letter_of m ∷ []) ∷ fs }) ≡ Ok (m, record { place = q; left = gs }))
+pub numbers-method : (p : ℕ) (m : PlainMethod) (fs gs : List (List ℕ)) → Written (method_numbers m) fs gs → (q : ℕ) × (method_in (record { place = p; left = (letter_of m ∷ []) ∷ fs }) ≡ Ok (m, record { place = q; left = gs }))
 numbers-method p (report a b) fs gs w =
     (p + 1 + 2, then-gives (λ r. Ok (report (get_or r.0 0 0) (get_or r.0 1 0), r.1)) _ (numbers-gives 2 (p + 1) fs (a ∷ b ∷ []) gs refl w))
 numbers-method p (sector_mean a b) fs gs w =
@@ -119,7 +119,7 @@ numbers-method p (bill ts) fs gs w =
 
 -- ---- the line
 
-entry_read : (f : FieldsLeft) (x : PlainEntry × FieldsLeft) → entry_in f ≡ Ok x
+pub entry_read : (f : FieldsLeft) (x : PlainEntry × FieldsLeft) → entry_in f ≡ Ok x
     → (f.left ≡ map decimal (head_numbers x.0) ++ (letter_of x.0.method ∷ []) ∷ map decimal (method_numbers x.0.method) ++ x.1.left) × (ThirteenDigits (head_numbers x.0) × ThirteenDigits (method_numbers x.0.method))
 entry_read f x h =
     let (y, reads, rest) = then_ok (numbers_in 13 f) (λ r. and_then (method_in r.1) (λ s. Ok (entry_of r.0 s.0, s.1))) x h in

@@ -43,7 +43,7 @@ whole-gives read line x q short reads =
 
 -- ---- numbers
 
-written-done : (ns : List ℕ) (fs gs : List (List ℕ)) → Written ns fs gs → gs ≡ [] → fs ≡ map decimal ns
+pub written-done : (ns : List ℕ) (fs gs : List (List ℕ)) → Written ns fs gs → gs ≡ [] → fs ≡ map decimal ns
 written-done ns fs gs w none = w.spelled ∙ ap (λ l. map decimal ns ++ l) none ∙ append-nil (map decimal ns)
 
 -- the fields of a line that is written

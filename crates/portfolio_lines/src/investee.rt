@@ -2,6 +2,7 @@
 ghost use Rattle.std.specs.Prelude.{◌≡◌};
 ghost use Rattle.portfolio_lines.specs.Counted.{fields_left, leaving};
 ghost use Rattle.portfolio_lines.specs.Lines.{fields_in, entry_in, investee_of, held_over, held_in, held_line};
+ghost use Rattle.portfolio_lines.specs.Places.{FieldsOfInvestee, RefusesWrongLines};
 ghost use Rattle.portfolio_lines.specs.Text.{ReadsInvestees};
 
 use crate::counted::Fields;
@@ -82,6 +83,7 @@ fn read_entry(fields: &mut Fields<'_>) -> Result<InvesteeEntry, Misread>
 pub fn read_investee(line: &[u8]) -> Result<InvesteeEntry, Misread>
     ensures value { result ≡ held_line (investee_of line.now) }
     ensures lines { ReadsInvestees line.now }
+    ensures refuses { RefusesWrongLines FieldsOfInvestee line.now result }
 {
     if line.len() > MOST_BYTES {
         return Err(Misread::TooLong);

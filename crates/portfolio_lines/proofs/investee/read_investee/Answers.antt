@@ -1,9 +1,11 @@
-use Rattle.std.proofs.Common.{ap}
+use Rattle.std.proofs.Common.{◌≡◌, ap}
 use Rattle.std.proofs.lemmas.Result.{err_from_is_err_and}
 use Rattle.lines.specs.Fields.{pieces_left}
+use Rattle.portfolio_lines.specs.Lines.{investee_of, held_line}
 use Rattle.portfolio_lines.proofs.Counts.{few-fields}
-use Rattle.portfolio_lines.proofs.Held.{line-wrong, line_read}
+use Rattle.portfolio_lines.proofs.Held.{line-wrong, line-surplus, line_read}
 use Rattle.portfolio_lines.proofs.Investees.{investee-line, investee-reads}
+use Rattle.portfolio_lines.proofs.Places.{investee-refuses}
 use Rattle.portfolio_lines.proofs.investee.read_investee.Goals as goal
 
 pub returns-in_err-entry-clause-value : goal.returns-in_err-entry-clause-value
@@ -26,3 +28,16 @@ returns-in_err-end-clause-lines c = λ e. (investee-line c.args.line.now e, inve
 
 pub returns-clause-lines : goal.returns-clause-lines
 returns-clause-lines c = λ e. (investee-line c.args.line.now e, investee-reads c.args.line.now e)
+
+pub returns-in_err-entry-clause-refuses : goal.returns-in_err-entry-clause-refuses
+returns-in_err-entry-clause-refuses c = investee-refuses c.args.line.now _ (returns-in_err-entry-clause-value c)
+
+pub returns-in_err-end-clause-refuses : goal.returns-in_err-end-clause-refuses
+returns-in_err-end-clause-refuses c =
+    let p = err_from_is_err_and c.from_residual-in_err-end.result c.from_residual-in_err-end.ensures.1 in
+    let value : c.from_residual-in_err-end.result ≡ held_line (investee_of c.args.line.now) =
+    rw (p.1, p.2) (line-surplus c.args.line.now (record { place = 1; left = pieces_left c.new.result.separator c.new.result.rest }) _ _ _ c.if-line-gt-MOST_BYTES.false (ap (λ l. record { place = 1; left = l }) c.new.ensures.pieces) c.in_ok-entry.ensures c.in_err-end.ensures) in
+    investee-refuses c.args.line.now _ value
+
+pub returns-clause-refuses : goal.returns-clause-refuses
+returns-clause-refuses c = investee-refuses c.args.line.now _ (returns-clause-value c)

@@ -1,0 +1,247 @@
+-- Where a line of numbers goes wrong.
+use Rattle.std.proofs.Common.{◌≡◌, ℕ, zero, suc, ◌+◌, ◌<◌, ◌≤◌, ltb, List, [], ◌∷◌, ◌++◌, length, Some, None, Ok, Err, decimal, Option, Result, sym, refl, ap, ◌∙◌, subst, ⊎_elim, append_assoc, append-nil, arith}
+use Rattle.std.proofs.lemmas.Bool.{cases_lt, lt-ltb, le-ltb, cond-true, cond-false}
+use Rattle.lines.specs.Fields.{pieces, numbers_of, first, at_field, ended, line_of}
+use Rattle.lines.specs.Numerals.{number_of}
+use Rattle.lines.specs.Places.{Begins, GoesWrong, WrongAt, NumberFields, WrongNumberLine, RefusesWhatIsWrong}
+use Rattle.lines.specs.declared.fields.LineError.{LineError}
+use Rattle.lines.specs.declared.fields.LineError.TheVariants.{TooLong, Field, Surplus}
+use Rattle.lines.proofs.Numbers.{number-from-spells}
+use Rattle.lines.proofs.Printed.{fields_read, read-printed}
+
+-- ---- of any form: at most one place, and none in a line
+
+-- of two fronts of the same fields, the longer one goes on as the fields do
+record Longer (a rest b : List (List ℕ)) : Type 0 where
+  pub field : List ℕ
+  pub after : List (List ℕ)
+  pub more : List (List ℕ)
+  pub next : rest ≡ field ∷ after
+  pub goes_on : b ≡ (a ++ field ∷ []) ++ more
+
+longer : (a rest b bs : List (List ℕ)) → a ++ rest ≡ b ++ bs → length a < length b → Longer a rest b
+longer a rest [] bs same lt = absurd (omega (arith, lt))
+longer [] rest (f ∷ b) bs same lt = record { field = f; after = b ++ bs; more = b; next = same; goes_on = refl }
+longer (g ∷ a) rest (f ∷ b) bs same lt =
+    let head : g ≡ f = cc in
+    let tail : a ++ rest ≡ b ++ bs = cc in
+    let deep = longer a rest b bs tail (omega (arith, lt)) in
+    record { field = deep.field; after = deep.after; more = deep.more; next = deep.next; goes_on = λ t. sym head t ∷ deep.goes_on t }
+
+module _ (Form : List (List ℕ) → Type 0) where
+  begins-less : (a b : List (List ℕ)) → Begins Form (a ++ b) → Begins Form a
+  begins-less a b (more, form) = (b ++ more, subst Form (append_assoc a b more) form)
+
+  not_before : (fields : List (List ℕ)) (i j : ℕ) → WrongAt Form fields i → WrongAt Form fields j → i < j → ⊥
+  not_before fields i j w v lt =
+      let far = longer w.before w.after v.before v.after (sym w.fields_are ∙ v.fields_are) (omega (arith, w.count, v.count, lt)) in
+      subst (GoesWrong Form w.before) far.next w.goes_wrong (begins-less (w.before ++ far.field ∷ []) far.more (subst (Begins Form) far.goes_on v.begins))
+
+  pub one-place : (fields : List (List ℕ)) (i j : ℕ) → WrongAt Form fields i → WrongAt Form fields j → i ≡ j
+  one-place fields i j w v =
+      ⊎_elim (λ lt. absurd (not_before fields i j w v lt))
+      (λ le. ⊎_elim (λ gt. absurd (not_before fields j i v w gt)) (λ ge. omega (arith, le, ge)) (cases_lt j i))
+      (cases_lt i j)
+
+  pub no-place : (fields : List (List ℕ)) (i : ℕ) → Form fields → WrongAt Form fields i → ⊥
+  no-place fields i form w = by w.after w.fields_are w.goes_wrong
+    where
+      by : (after : List (List ℕ)) → fields ≡ w.before ++ after → GoesWrong Form w.before after → ⊥
+      by [] is wrong = wrong (subst Form (is ∙ append-nil w.before) form)
+      by (f ∷ after) is wrong = wrong (after, subst Form (is ∙ sym (append_assoc w.before (f ∷ []) after)) form)
+
+-- ---- k numbers, and what follows them
+
+-- what is read does not hang on what follows
+pub record Passes (k i : ℕ) (fs : List (List ℕ)) (ns : List ℕ) (gs : List (List ℕ)) : Type 0 where
+  pub front : List (List ℕ)
+  pub fields_are : fs ≡ front ++ gs
+  pub count : length front ≡ k
+  pub again : (after : List (List ℕ)) → numbers_of k i (front ++ after) ≡ Ok (ns, after)
+
+pub numbers-pass : (k i : ℕ) (fs : List (List ℕ)) (ns : List ℕ) (gs : List (List ℕ)) → numbers_of k i fs ≡ Ok (ns, gs) → Passes k i fs ns gs
+numbers-pass zero i fs ns gs h =
+    let pair : ◌≡◌ {A = List ℕ × List (List ℕ)} ([], fs) (ns, gs) = cc in
+    record { front = []; fields_are = ap (λ x. x.1) pair; count = refl; again = λ after. ap (λ x. Ok (x.0, after)) pair }
+numbers-pass (suc k) i [] ns gs h = let z : ◌≡◌ {A = ℕ} 0 1 = cc in absurd (omega arith)
+numbers-pass (suc k) i (f ∷ fs) ns gs h = by (λ ms q. numbers-pass k (suc i) fs ms gs q) (number_of f) refl (numbers_of k (suc i) fs) refl h
+  where
+    by : ((ms : List ℕ) → numbers_of k (suc i) fs ≡ Ok (ms, gs) → Passes k (suc i) fs ms gs) → (o : Option ℕ) → number_of f ≡ o → (r : Result (List ℕ × List (List ℕ)) ℕ) → numbers_of k (suc i) fs ≡ r → first i o r ≡ Ok (ns, gs) → Passes (suc k) i (f ∷ fs) ns gs
+    by deep None e r q h = let z : ◌≡◌ {A = ℕ} 0 1 = cc in absurd (omega arith)
+    by deep (Some n) e (Err d) q h = let z : ◌≡◌ {A = ℕ} 0 1 = cc in absurd (omega arith)
+    by deep (Some n) e (Ok (ms, hs)) q h =
+        let pair : ◌≡◌ {A = List ℕ × List (List ℕ)} (n ∷ ms, hs) (ns, gs) = cc in
+        let rest : Passes k (suc i) fs ms gs = deep ms (q ∙ ap (λ x. Ok (ms, x.1)) pair) in
+        record {
+          front = f ∷ rest.front;
+          fields_are = ap (λ l. f ∷ l) rest.fields_are;
+          count = ap suc rest.count;
+          again = λ after. (λ t. first i (e t) (rest.again after t)) ∙ ap (λ x. Ok (x.0, after)) pair;
+        }
+
+-- fields that read as k numbers
+pub record Zeros (k i : ℕ) : Type 0 where
+  pub fields : List (List ℕ)
+  pub numbers : List ℕ
+  pub read : (after : List (List ℕ)) → numbers_of k i (fields ++ after) ≡ Ok (numbers, after)
+
+pub zeros : (k i : ℕ) → Zeros k i
+zeros zero i = record { fields = []; numbers = []; read = λ after. refl }
+zeros (suc k) i =
+    let rest = zeros k (suc i) in
+    record { fields = decimal 0 ∷ rest.fields; numbers = 0 ∷ rest.numbers; read = λ after. (λ t. first i (number-from-spells (decimal 0) 0 (refl, omega arith) t) (rest.read after t)) }
+
+-- fields where no k numbers stand: those before the place go on to k numbers, and whatever follows the one there, they stop at it
+pub record Stops (k i : ℕ) (fs : List (List ℕ)) (j : ℕ) : Type 0 where
+  pub before : List (List ℕ)
+  pub after : List (List ℕ)
+  pub fields_are : fs ≡ before ++ after
+  pub count : i + length before ≡ j
+  pub few : length before < k
+  pub more : List (List ℕ)
+  pub numbers : List ℕ
+  pub completes : (rest : List (List ℕ)) → numbers_of k i ((before ++ more) ++ rest) ≡ Ok (numbers, rest)
+  pub again : (f : List ℕ) (us vs : List (List ℕ)) → after ≡ f ∷ us → numbers_of k i (before ++ f ∷ vs) ≡ Err j
+
+pub numbers_stop : (k i : ℕ) (fs : List (List ℕ)) (j : ℕ) → numbers_of k i fs ≡ Err j → Stops k i fs j
+numbers_stop zero i fs j h = let z : ◌≡◌ {A = ℕ} 0 1 = cc in absurd (omega arith)
+numbers_stop (suc k) i [] j h =
+    let same : i ≡ j = cc in
+    let z = zeros (suc k) i in
+    record {
+      before = [];
+      after = [];
+      fields_are = refl;
+      count = omega (arith, same);
+      few = omega arith;
+      more = z.fields;
+      numbers = z.numbers;
+      completes = z.read;
+      again = λ f us vs none. absurd (omega (arith, ap length none));
+    }
+numbers_stop (suc k) i (f ∷ fs) j h = by (numbers_stop k (suc i) fs j) (number_of f) refl (numbers_of k (suc i) fs) refl h
+  where
+    by : (numbers_of k (suc i) fs ≡ Err j → Stops k (suc i) fs j) → (o : Option ℕ) → number_of f ≡ o → (r : Result (List ℕ × List (List ℕ)) ℕ) → numbers_of k (suc i) fs ≡ r → first i o r ≡ Err j → Stops (suc k) i (f ∷ fs) j
+    by deep None e r q h =
+        let same : i ≡ j = cc in
+        let z = zeros (suc k) i in
+        record {
+          before = [];
+          after = f ∷ fs;
+          fields_are = refl;
+          count = omega (arith, same);
+          few = omega arith;
+          more = z.fields;
+          numbers = z.numbers;
+          completes = z.read;
+          again = λ g us vs is. let here : f ≡ g = cc in ap (λ o. first i o (numbers_of k (suc i) vs)) (sym (ap number_of here) ∙ e) ∙ ap Err same;
+        }
+    by deep (Some n) e (Ok x) q h = let z : ◌≡◌ {A = ℕ} 0 1 = cc in absurd (omega arith)
+    by deep (Some n) e (Err d) q h =
+        let same : d ≡ j = cc in
+        let rest : Stops k (suc i) fs j = deep (q ∙ ap Err same) in
+        record {
+          before = f ∷ rest.before;
+          after = rest.after;
+          fields_are = ap (λ l. f ∷ l) rest.fields_are;
+          count = omega (arith, rest.count);
+          few = omega (arith, rest.few);
+          more = rest.more;
+          numbers = n ∷ rest.numbers;
+          completes = λ others t. first i (e t) (rest.completes others t);
+          again = λ g us vs is. (λ t. first i (e t) (rest.again g us vs is t));
+        }
+
+-- ---- the fields of a line of numbers
+
+pub fields-from : (k i : ℕ) (fs : List (List ℕ)) (ns : List ℕ) → numbers_of k i fs ≡ Ok (ns, []) → NumberFields k fs
+fields-from k i fs ns h = let w = fields_read k i fs ns h in record { numbers = ns; count = w.count; digits = w.small; fields_are = w.spelled }
+
+pub fields-give : (k i : ℕ) (fs : List (List ℕ)) (w : NumberFields k fs) → numbers_of k i fs ≡ Ok (w.numbers, [])
+fields-give k i fs w = (λ t. numbers_of (sym w.count t) i (w.fields_are t)) ∙ read-printed i w.numbers w.digits
+
+wrong-field : (k : ℕ) (fs : List (List ℕ)) (j : ℕ) → numbers_of k 0 fs ≡ Err j → (j < k) × WrongAt (NumberFields k) fs j
+wrong-field k fs j h =
+    let s = numbers_stop k 0 fs j h in (
+      omega (arith, s.count, s.few),
+      record {
+        before = s.before;
+        after = s.after;
+        fields_are = s.fields_are;
+        count = omega (arith, s.count);
+        begins = (s.more, fields-from k 0 (s.before ++ s.more) s.numbers (ap (numbers_of k 0) (sym (append-nil (s.before ++ s.more))) ∙ s.completes []));
+        goes_wrong = by s s.after refl s.fields_are;
+      },
+    )
+  where
+    by : (s : Stops k 0 fs j) (after : List (List ℕ)) → s.after ≡ after → fs ≡ s.before ++ after → GoesWrong (NumberFields k) s.before after
+    by s [] e is = λ form.
+        let reads : numbers_of k 0 fs ≡ Ok (form.numbers, []) = ap (numbers_of k 0) (is ∙ append-nil s.before) ∙ fields-give k 0 s.before form in
+        let z : ◌≡◌ {A = Result (List ℕ × List (List ℕ)) ℕ} (Err j) (Ok (form.numbers, [])) = sym h ∙ reads in
+        let y : ◌≡◌ {A = ℕ} 0 1 = cc in absurd (omega arith)
+    by s (f ∷ after) e is = λ b.
+        let reads : numbers_of k 0 (s.before ++ f ∷ b.0) ≡ Ok (b.1.numbers, []) = ap (numbers_of k 0) (sym (append_assoc s.before (f ∷ []) b.0)) ∙ fields-give k 0 ((s.before ++ f ∷ []) ++ b.0) b.1 in
+        let z : ◌≡◌ {A = Result (List ℕ × List (List ℕ)) ℕ} (Err j) (Ok (b.1.numbers, [])) = sym (s.again f after b.0 e) ∙ reads in
+        let y : ◌≡◌ {A = ℕ} 0 1 = cc in absurd (omega arith)
+
+surplus-field : (k : ℕ) (fs : List (List ℕ)) (ns : List ℕ) (f : List ℕ) (gs : List (List ℕ)) → numbers_of k 0 fs ≡ Ok (ns, f ∷ gs) → WrongAt (NumberFields k) fs k
+surplus-field k fs ns f gs h =
+    let p = numbers-pass k 0 fs ns (f ∷ gs) h in
+    record {
+      before = p.front;
+      after = f ∷ gs;
+      fields_are = p.fields_are;
+      count = p.count;
+      begins = ([], fields-from k 0 (p.front ++ []) ns (p.again []));
+      goes_wrong = λ b.
+          let reads : numbers_of k 0 (p.front ++ f ∷ b.0) ≡ Ok (b.1.numbers, []) = ap (numbers_of k 0) (sym (append_assoc p.front (f ∷ []) b.0)) ∙ fields-give k 0 ((p.front ++ f ∷ []) ++ b.0) b.1 in
+          let z : ◌≡◌ {A = Result (List ℕ × List (List ℕ)) ℕ} (Ok (ns, f ∷ b.0)) (Ok (b.1.numbers, [])) = sym (p.again (f ∷ b.0)) ∙ reads in
+          let pair : ◌≡◌ {A = List ℕ × List (List ℕ)} (ns, f ∷ b.0) (b.1.numbers, []) = cc in
+          absurd (omega (arith, ap (λ x. length x.1) pair));
+    }
+
+-- ---- the line
+
+-- what the reading of a line shows of it
+abbrev Told : ℕ → List ℕ → Result (List ℕ) LineError → Type 0
+Told k line (Ok ns) = (length line ≤ 511) × NumberFields k (pieces 32 line)
+Told k line (Err e) = WrongNumberLine k line e
+
+line-told : (k : ℕ) (line : List ℕ) → Told k line (line_of k line)
+line-told k line =
+    ⊎_elim
+    (λ over. subst (Told k line) (sym (cond-true (ltb 511 (length line)) _ _ (lt-ltb 511 (length line) over))) over)
+    (λ fits. subst (Told k line) (sym (cond-false (ltb 511 (length line)) _ _ (le-ltb 511 (length line) fits))) (by fits (numbers_of k 0 (pieces 32 line)) refl))
+    (cases_lt 511 (length line))
+  where
+    by : length line ≤ 511 → (r : Result (List ℕ × List (List ℕ)) ℕ) → numbers_of k 0 (pieces 32 line) ≡ r → Told k line (ended (at_field r))
+    by fits (Err j) is = let (few, wrong) = wrong-field k (pieces 32 line) j is in (fits, few, wrong)
+    by fits (Ok (ns, [])) is = (fits, fields-from k 0 (pieces 32 line) ns is)
+    by fits (Ok (ns, f ∷ gs)) is = (fits, surplus-field k (pieces 32 line) ns f gs is)
+
+-- it is wrong in one way
+one-way : (k : ℕ) (line : List ℕ) (d e : LineError) → WrongNumberLine k line d → WrongNumberLine k line e → d ≡ e
+one-way k line TooLong TooLong a b = refl
+one-way k line TooLong (Field j) a b = absurd (omega (arith, a, b.0))
+one-way k line TooLong Surplus a b = absurd (omega (arith, a, b.0))
+one-way k line (Field i) TooLong a b = absurd (omega (arith, a.0, b))
+one-way k line (Field i) (Field j) a b = ap Field (one-place (NumberFields k) (pieces 32 line) i j a.2 b.2)
+one-way k line (Field i) Surplus a b = absurd (omega (arith, a.1, one-place (NumberFields k) (pieces 32 line) i k a.2 b.1))
+one-way k line Surplus TooLong a b = absurd (omega (arith, a.0, b))
+one-way k line Surplus (Field j) a b = absurd (omega (arith, b.1, one-place (NumberFields k) (pieces 32 line) j k b.2 a.1))
+one-way k line Surplus Surplus a b = refl
+
+-- and a line of k numbers in none
+no-way : (k : ℕ) (line : List ℕ) (e : LineError) → length line ≤ 511 → NumberFields k (pieces 32 line) → WrongNumberLine k line e → ⊥
+no-way k line TooLong fits form w = omega (arith, fits, w)
+no-way k line (Field i) fits form w = no-place (NumberFields k) (pieces 32 line) i form w.2
+no-way k line Surplus fits form w = no-place (NumberFields k) (pieces 32 line) k form w.1
+
+the-way : (k : ℕ) (line : List ℕ) (r : Result (List ℕ) LineError) (e : LineError) → Told k line r → WrongNumberLine k line e → r ≡ Err e
+the-way k line (Ok ns) e told w = absurd (no-way k line e told.0 told.1 w)
+the-way k line (Err d) e told w = ap Err (one-way k line d e told w)
+
+pub refuses : (k : ℕ) (line : List ℕ) (r : Result (List ℕ) LineError) → r ≡ line_of k line → RefusesWhatIsWrong k line r
+refuses k line r is e =
+    let told : Told k line r = subst (Told k line) (sym is) (line-told k line) in
+    (λ err. subst (Told k line) err told, λ w. the-way k line r e told w)

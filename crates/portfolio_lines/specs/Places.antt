@@ -1,0 +1,30 @@
+-- Where a line of a portfolio file is wrong, by its fields alone.
+use Rattle.std.specs.Prelude.{◌≡◌, ℕ, zero, suc, ◌<◌, ◌≤◌, List, length, Err, Result}
+use Rattle.entries.specs.Entries.{PlainEntry}
+use Rattle.lines.specs.Fields.{pieces}
+use Rattle.lines.specs.Places.{WrongAt}
+use Rattle.portfolio_lines.specs.Text.{ThirteenDigits, head_numbers, method_numbers, investee_fields}
+use Rattle.portfolio_lines.specs.declared.misread.Misread.{Misread}
+use Rattle.portfolio_lines.specs.declared.misread.Misread.TheVariants.{TooLong, Field}
+
+-- the fields are how an investee is written
+pub record FieldsOfInvestee (fields : List (List ℕ)) : Type 0 where
+  pub entry : PlainEntry
+  pub digits : ThirteenDigits (head_numbers entry) × ThirteenDigits (method_numbers entry.method)
+  pub fields_are : fields ≡ investee_fields entry
+
+-- a line of a form has at most 511 bytes
+pub record LineOf (Form : List (List ℕ) → Type 0) (line : List ℕ) : Type 0 where
+  pub short : length line ≤ 511
+  pub fields : Form (pieces 32 line)
+
+-- Why a line is not one of a form. One that is too long is wrong as a whole, whatever it holds.
+-- In another the fields before the place, which counts from 1, begin a line of the form, and with the one there no longer do.
+abbrev pub WrongLine : (List (List ℕ) → Type 0) → List ℕ → Misread → Type 0
+WrongLine Form line TooLong = 511 < length line
+WrongLine Form line (Field zero) = ⊥
+WrongLine Form line (Field (suc i)) = (length line ≤ 511) × WrongAt Form (pieces 32 line) i
+
+-- a line is refused just where and as it is wrong
+abbrev pub RefusesWrongLines : {X : Type 0} → (List (List ℕ) → Type 0) → List ℕ → Result X Misread → Type 0
+RefusesWrongLines Form line r = (e : Misread) → (r ≡ Err e → WrongLine Form line e) × (WrongLine Form line e → r ≡ Err e)
