@@ -1,11 +1,9 @@
 // The book as it is kept.
-ghost use Rattle.std.specs.Prelude.{◌≤◌, vec_len, vec_capacity};
-ghost use Rattle.fixed_tables.specs.Tables.{rows_in};
 ghost use Rattle.plain.specs.Kept.{KeptByEveryRun};
 ghost use Rattle.book.specs.Rows.{plain_rows};
 
 use crate::rows::InvesteeRow;
-use fixed_tables::Table;
+use arrayvec::ArrayVec;
 use plain::limits::MOST_INVESTEES;
 use positions::Positions;
 use rules::rule::Rule;
@@ -18,12 +16,12 @@ mod readings;
 mod restating;
 mod running;
 
-// One lender's book under one rule, with room for all that it can hold: no call after `new` wants memory.
+// One lender's book under one rule, with room for all that it can hold: no call wants memory.
 #[derive(Drop)]
 pub struct Book<'r, R: Rule> {
     // Each call says by three clauses what the book, its rule and the answer then are: contracts are read one by one.
     rule: &'r R,
-    investees: Table<InvesteeRow, MOST_INVESTEES>,
+    investees: ArrayVec<InvesteeRow, MOST_INVESTEES>,
     positions: Positions,
-    ghost kept: { ∥ KeptByEveryRun (plain_rows (rows_in investees) positions) ∥₁ },
+    ghost kept: { ∥ KeptByEveryRun (plain_rows investees.items positions) ∥₁ },
 }

@@ -4,7 +4,9 @@ ghost use Rattle.plain.specs.Changes.{opened, restated, reduced_by};
 ghost use Rattle.plain.specs.PlainBook.{has_id};
 ghost use Rattle.book.specs.Rows.{plain_investee};
 
+use rules::figures::Figures;
 use rules::investees::Profile;
+use rules::kinds::{Kind, Size};
 use sources::reading::Reading;
 
 // An investee with its last reading, and its reduction once one is set.
@@ -13,6 +15,25 @@ pub struct InvesteeRow {
     pub profile: Profile,
     pub reading: Reading,
     pub reduction: Option<i64>,
+}
+
+// What fills the places of a table that have no investee yet: no investee has the id 0.
+impl Default for InvesteeRow {
+    fn default() -> InvesteeRow {
+        let profile = Profile {
+            id: 0,
+            kind: Kind::GeneralLoan,
+            sector: 0,
+            size: Size::Person,
+            days: 0,
+            figures: Figures::default(),
+        };
+        let reading = Reading {
+            kilograms: 0,
+            grade: 0,
+        };
+        InvesteeRow::opened(profile, reading)
+    }
 }
 
 impl InvesteeRow {

@@ -60,7 +60,7 @@ fn saved(base_kilograms: u64) -> Estimate<Reported> {
 
 #[test]
 fn investee_201(rt: HostRuntime) -> Result<(), Fail> {
-    let mut book = Book::new(rt.alloc(), &National)?;
+    let mut book = Book::new(&National);
     for id in 1..201 {
         assert_eq!(rt; number(book.open(fields(id, 5), &reported(1))), 0);
     }
@@ -71,7 +71,7 @@ fn investee_201(rt: HostRuntime) -> Result<(), Fail> {
 
 #[test]
 fn position_501(rt: HostRuntime) -> Result<(), Fail> {
-    let mut book = Book::new(rt.alloc(), &National)?;
+    let mut book = Book::new(&National);
     for id in 1..14 {
         assert_eq!(rt; number(book.open(fields(id, 1), &reported(1))), 0);
     }
@@ -86,7 +86,7 @@ fn position_501(rt: HostRuntime) -> Result<(), Fail> {
 
 #[test]
 fn months_and_exposures(rt: HostRuntime) -> Result<(), Fail> {
-    let mut book = Book::new(rt.alloc(), &National)?;
+    let mut book = Book::new(&National);
     assert_eq!(rt; number(book.open(fields(7, 5), &reported(1_000))), 0);
     assert_eq!(rt; number(book.post(1, 7, 1, 8_999_999)), 0);
     assert_eq!(rt; number(book.post(1, 7, 1, 1)), 22);
@@ -103,7 +103,7 @@ fn months_and_exposures(rt: HostRuntime) -> Result<(), Fail> {
 // Total assets of 1,000: twelve times a balance of 1,000 is the denominator.
 #[test]
 fn bond_at_its_denominator(rt: HostRuntime) -> Result<(), Fail> {
-    let mut book = Book::new(rt.alloc(), &Pudong)?;
+    let mut book = Book::new(&Pudong);
     assert_eq!(rt; number(book.open(fields(7, 6), &reported(1_000))), 0);
     assert_eq!(rt; number(book.post(1, 7, 11, 1)), 21);
     assert_eq!(rt; number(book.post(1, 7, 12, 1_001)), 26);
@@ -116,7 +116,7 @@ fn bond_at_its_denominator(rt: HostRuntime) -> Result<(), Fail> {
 // Reductions of -1, 0 and 1 kg, each parted in halves.
 #[test]
 fn smallest_figures(rt: HostRuntime) -> Result<(), Fail> {
-    let mut book = Book::new(rt.alloc(), &National)?;
+    let mut book = Book::new(&National);
     assert_eq!(rt; number(book.open(fields(7, 5), &reported(1))), 0);
     assert_eq!(rt; number(book.post(1, 7, 1, 60_000)), 0);
     assert_eq!(rt; number(book.post(2, 7, 1, 60_000)), 0);
@@ -135,7 +135,7 @@ fn smallest_figures(rt: HostRuntime) -> Result<(), Fail> {
 
 #[test]
 fn rule_that_counts_nobody(rt: HostRuntime) -> Result<(), Fail> {
-    let mut book = Book::new(rt.alloc(), &Nobody)?;
+    let mut book = Book::new(&Nobody);
     assert_eq!(rt; number(book.open(fields(7, 5), &reported(1_000))), 0);
     assert_eq!(rt; number(book.post(1, 7, 1, 60_000)), 0);
     assert_eq!(rt; book.part(7, 1).ok(), Some(kilograms(0, 0)));
@@ -148,7 +148,7 @@ fn rule_that_counts_nobody(rt: HostRuntime) -> Result<(), Fail> {
 
 #[test]
 fn own_source_and_declined_calls(rt: HostRuntime) -> Result<(), Fail> {
-    let mut book = Book::new(rt.alloc(), &National)?;
+    let mut book = Book::new(&National);
     let log = GaugeLog {
         kilograms: 1_000,
         hours_down: 101,
@@ -169,7 +169,7 @@ fn own_source_and_declined_calls(rt: HostRuntime) -> Result<(), Fail> {
 // The last branch has lent to the second investee, and nobody to the first.
 #[test]
 fn accounts_and_sheets(rt: HostRuntime) -> Result<(), Fail> {
-    let mut book = Book::new(rt.alloc(), &National)?;
+    let mut book = Book::new(&National);
     assert_eq!(rt; number(book.open(fields(7, 1), &reported(1_000))), 0);
     assert_eq!(rt; number(book.open(fields(5, 5), &reported(1_000))), 0);
     assert_eq!(rt; number(book.post(40, 5, 12, 60_000)), 0);
@@ -190,7 +190,7 @@ fn accounts_and_sheets(rt: HostRuntime) -> Result<(), Fail> {
 // Ids with one remainder by 251, which the index of positions keeps together, posted to by turns.
 #[test]
 fn ids_251_apart(rt: HostRuntime) -> Result<(), Fail> {
-    let mut book = Book::new(rt.alloc(), &National)?;
+    let mut book = Book::new(&National);
     for (id, figure) in [(1, 1_001), (252, 1_257), (503, 1_513)] {
         assert_eq!(rt; number(book.open(fields(id, 5), &reported(figure))), 0);
         assert_eq!(rt; number(book.post(1, id, 1, 60_000)), 0);

@@ -62,7 +62,7 @@ pub fn mean_grade(rt: &HostRuntime) -> Result<(), Failure> {
 // The page of a file, in one line.
 pub fn two_branches(rt: &HostRuntime) -> Result<(), Failure> {
     let mut buffer = [0; ROOM];
-    let length = answer(rt.alloc(), FILE.as_bytes(), &mut buffer)??;
+    let length = answer(FILE.as_bytes(), &mut buffer)?;
     let page = std::str::from_utf8(&buffer[..length])?;
     let lines = page.trim_end().replace(rt.alloc(), '\n', " / ")?;
     println!(rt; "two branches: {lines}")?;

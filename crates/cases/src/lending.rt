@@ -7,7 +7,6 @@ use rules::national::National;
 use rules::pudong::Pudong;
 use sources::estimate::{Estimate, EstimateFigures};
 use sources::reported::{Mark, Reported};
-use std::alloc::Global;
 
 const ID: u64 = 7;
 
@@ -36,12 +35,8 @@ fn reported(kilograms: u64) -> Reported {
 }
 
 // A general loan with a revenue of 10,000 wan, to which branches 1, 2 and so on have lent these amounts in January.
-fn loan(
-    heap: Global,
-    kilograms: u64,
-    balances: &[u64],
-) -> Result<Book<'static, National>, Failure> {
-    let mut book = Book::new(heap, &National)?;
+fn loan(kilograms: u64, balances: &[u64]) -> Result<Book<'static, National>, Failure> {
+    let mut book = Book::new(&National);
     book.open(fields(5, 10_000, 0), &reported(kilograms))?;
     for (branch, balance) in (1..).zip(balances) {
         book.post(branch, ID, 1, *balance)?;
@@ -50,7 +45,7 @@ fn loan(
 }
 
 pub fn thirds(rt: &HostRuntime) -> Result<(), Failure> {
-    let mut book = loan(rt.alloc(), 1_000, &[40_000, 40_000, 40_000])?;
+    let mut book = loan(1_000, &[40_000, 40_000, 40_000])?;
     let figures = EstimateFigures {
         report_output: 1,
         base_output: 1,
@@ -73,11 +68,11 @@ pub fn thirds(rt: &HostRuntime) -> Result<(), Failure> {
 }
 
 pub fn pairs(rt: &HostRuntime) -> Result<(), Failure> {
-    let capped = loan(rt.alloc(), 1_000, &[120_000, 60_000])?;
+    let capped = loan(1_000, &[120_000, 60_000])?;
     let a = capped.part(ID, 1)?.emissions;
     let b = capped.part(ID, 2)?.emissions;
     println!(rt; "1000 kg over 120000 and 60000: {a} {b}")?;
-    let halves = loan(rt.alloc(), 1, &[60_000, 60_000])?;
+    let halves = loan(1, &[60_000, 60_000])?;
     let a = halves.part(ID, 1)?.emissions;
     let b = halves.part(ID, 2)?.emissions;
     println!(rt; "halves of 1 kg: {a} {b}")?;
@@ -87,7 +82,7 @@ pub fn pairs(rt: &HostRuntime) -> Result<(), Failure> {
 // A general loan is counted from an exposure of 6,000 wan.
 pub fn limits(rt: &HostRuntime) -> Result<(), Failure> {
     for exposure in [6_000, 5_999] {
-        let total = loan(rt.alloc(), 1_000, &[exposure])?.total(ID)?;
+        let total = loan(1_000, &[exposure])?.total(ID)?;
         println!(rt;
             "exposure {exposure}: {} kg, reason {}",
             total.kilograms.emissions, total.reason
@@ -99,7 +94,7 @@ pub fn limits(rt: &HostRuntime) -> Result<(), Failure> {
 // A bond cannot be more than the assets.
 pub fn bonds(rt: &HostRuntime) -> Result<(), Failure> {
     for balance in [1_000, 1_001] {
-        let mut book = Book::new(rt.alloc(), &Pudong)?;
+        let mut book = Book::new(&Pudong);
         book.open(fields(6, 0, 1_000), &reported(1_000))?;
         print!(rt; "bond balance {balance} on assets 1000: ")?;
         match book.post(1, ID, 12, balance) {

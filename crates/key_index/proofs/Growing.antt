@@ -1,5 +1,5 @@
 -- One key more: the chain of its bucket leads on to it, and every other chain stays.
-use Rattle.std.proofs.Common.{◌≡◌, ℕ, zero, suc, ◌+◌, ◌-◌, ◌<◌, ◌≤◌, Bool, true, false, cond, leb, List, [], ◌∷◌, ◌++◌, length, get_or, set, drop, Some, None, Option, sym, refl, ap, ◌∙◌, ⊎_elim, arith}
+use Rattle.std.proofs.Common.{◌≡◌, ℕ, zero, suc, ◌+◌, ◌-◌, ◌<◌, ◌≤◌, Bool, true, false, cond, List, [], ◌∷◌, ◌++◌, length, get_or, set, drop, Some, None, Option, sym, refl, ap, ◌∙◌, ⊎_elim, arith}
 use Rattle.std.proofs.lemmas.List.{length-map, length_push, get_or_push, get_or_append_left, get_or-drop, length-drop, drop-append-le, get_or-set_same, get_or-set_other, set-get_or, length-set, map-set, map_push}
 use Rattle.std.proofs.Math.ListN.{get_or-map, drop_of_length-le}
 use Rattle.std.proofs.lemmas.Bool.{eq-eqb, eqb-true, ne_eqb, cond-true, cond-false, true≢false, cases_lt, cases_eq}
@@ -138,12 +138,8 @@ module _ (links : List Link) (chained : Chained links) (key : ℕ) where
   grown o = led_on o (length links) links ++ new ∷ []
 
   -- what a push to a table that is not full makes of them
-  pub pushed : (most : ℕ) (o : Option ℕ) (n : ℕ) (led now : List Link) → n ≡ length links → led ≡ led_on o n links → leb most (length links) ≡ false → now ≡ cond (leb most (length led)) led (led ++ new ∷ []) → now ≡ grown o
-  pushed most o n led now long is not-full e =
-      let led-is : led ≡ led_on o (length links) links = is ∙ ap (λ m. led_on o m links) long in
-      e
-      ∙ cond-false (leb most (length led)) led (led ++ new ∷ []) (ap (λ ls. leb most (length ls)) led-is ∙ ap (leb most) (length-led_on o (length links) links) ∙ not-full)
-      ∙ ap (λ ls. ls ++ new ∷ []) led-is
+  pub pushed : (o : Option ℕ) (n : ℕ) (led now : List Link) → n ≡ length links → led ≡ led_on o n links → now ≡ led ++ new ∷ [] → now ≡ grown o
+  pushed o n led now long is e = e ∙ ap (λ ls. ls ++ new ∷ []) (is ∙ ap (λ m. led_on o m links) long)
 
   pub keys-grown : (o : Option ℕ) → keys_of (grown o) ≡ keys ++ key ∷ []
   keys-grown o = map_push (λ l. l.key) (led_on o (length links) links) new ∙ ap (λ ks. ks ++ key ∷ []) (keys-led_on o (length links) links)

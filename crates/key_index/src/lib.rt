@@ -2,10 +2,9 @@
 #![tactic(auto)]
 
 ghost use Rattle.std.specs.Prelude.{◌≡◌, ◌<◌};
-ghost use Rattle.fixed_tables.specs.Tables.{rows_in};
 ghost use Rattle.key_index.specs.Buckets.{bucket_of, bucket_count, Chained, FirstsOf, LastsOf};
 
-use fixed_tables::Table;
+use arrayvec::ArrayVec;
 
 mod finding;
 mod pushing;
@@ -17,21 +16,21 @@ mod tests;
 const BUCKETS: usize = 251;
 
 // A key, and the place of the next one of its bucket.
-#[derive(Clone, Copy)]
+#[derive(Clone, Copy, Default)]
 struct Link {
     key: u64,
     next: Option<usize>,
 }
 
-// A list of at most MOST keys, with room for all of them: only making it wants memory.
+// A list of at most MOST keys, with room for all of them.
 #[derive(Drop)]
 pub struct KeyIndex<const MOST: usize> {
-    links: Table<Link, MOST>,
+    links: ArrayVec<Link, MOST>,
     firsts: [Option<usize>; BUCKETS],
     lasts: [Option<usize>; BUCKETS],
-    ghost chained: { Chained (rows_in links) },
-    ghost begun: { FirstsOf (rows_in links) firsts },
-    ghost ended: { LastsOf (rows_in links) lasts },
+    ghost chained: { Chained links.items },
+    ghost begun: { FirstsOf links.items firsts },
+    ghost ended: { LastsOf links.items lasts },
 }
 
 // The bucket of a key.

@@ -4,7 +4,7 @@ use std::test::Fail;
 
 #[test]
 fn keys_of_one_bucket(rt: HostRuntime) -> Result<(), Fail> {
-    let mut index: KeyIndex<5> = KeyIndex::new(rt.alloc())?;
+    let mut index: KeyIndex<5> = KeyIndex::new();
     for key in [7, 258, 7, 8, 7] {
         assert_eq!(rt; index.push(key), Ok(()));
     }

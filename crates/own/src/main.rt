@@ -7,7 +7,6 @@ use std::io;
 use std::io::Read;
 
 fn main(rt: HostRuntime) -> io::Result<()> {
-    // Input is read by the same calls as in carbon/src/main.rt: a crate for them would be longer than both.
     let mut bill = Vec::new(rt.alloc());
     // One byte more than a bill may have, so that a longer one is seen.
     rt.stdin()

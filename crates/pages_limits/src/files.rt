@@ -13,7 +13,7 @@ fn answered(
     room: usize,
 ) -> Result<(Result<usize, Fault>, Vec<u8>), Fail> {
     let mut buffer = vec![in heap; b'.'; room]?;
-    let length = answer(heap, file.as_bytes(), buffer.as_mut_slice())?;
+    let length = answer(file.as_bytes(), buffer.as_mut_slice());
     Ok((length, buffer))
 }
 
@@ -144,7 +144,7 @@ fn entries_before(rt: HostRuntime) -> Result<(), Fail> {
         let (length, buffer) = answered(rt.alloc(), file, 8_192)?;
         assert_eq!(rt; length?, expected.len());
         assert!(rt; holds(buffer.as_slice(), expected), "{}", *file);
-        let Ok(loaded) = load(rt.alloc(), file.as_bytes())? else {
+        let Ok(loaded) = load(file.as_bytes()) else {
             return Err(Fail::new("laid out"));
         };
         let mut buffer = vec![in rt.alloc(); b'.'; 8_192]?;

@@ -40,7 +40,7 @@ fn written<R: Rule>(heap: Global, book: &Book<'_, R>) -> Result<Vec<u8>, Fail> {
 
 #[test]
 fn empty_book(rt: HostRuntime) -> Result<(), Fail> {
-    let book = Book::new(rt.alloc(), &National)?;
+    let book = Book::new(&National);
     let text = written(rt.alloc(), &book)?;
     assert!(rt; text.as_slice() == b"FE 0\nT 0\n.".as_slice());
     Ok(())
@@ -48,7 +48,7 @@ fn empty_book(rt: HostRuntime) -> Result<(), Fail> {
 
 #[test]
 fn two_branches(rt: HostRuntime) -> Result<(), Fail> {
-    let mut book = Book::new(rt.alloc(), &National)?;
+    let mut book = Book::new(&National);
     book.open(loan(7), &reported(1_001))?;
     book.post(1, 7, 1, 60_000)?;
     book.post(2, 7, 1, 60_000)?;
@@ -60,7 +60,7 @@ fn two_branches(rt: HostRuntime) -> Result<(), Fail> {
 // A buffer one byte short is refused and left as it was.
 #[test]
 fn one_byte_short(rt: HostRuntime) -> Result<(), Fail> {
-    let mut book = Book::new(rt.alloc(), &National)?;
+    let mut book = Book::new(&National);
     book.open(loan(7), &reported(1_001))?;
     let mut buffer = vec![in rt.alloc(); b'.'; 8_191]?;
     let refusal = page(&book, buffer.as_mut_slice()).err();
@@ -72,7 +72,7 @@ fn one_byte_short(rt: HostRuntime) -> Result<(), Fail> {
 // 200 investees with ids of ten digits and 10^12 kg each, five to a branch.
 #[test]
 fn full_page(rt: HostRuntime) -> Result<(), Fail> {
-    let mut book = Book::new(rt.alloc(), &National)?;
+    let mut book = Book::new(&National);
     for place in 0..200 {
         let id = 4_294_967_295 - place;
         book.open(loan(id), &reported(1_000_000_000_000))?;

@@ -6,3 +6,4 @@ pub mod Walks
 pub mod Turns
 pub mod Following
 pub mod Seeking
+pub mod Lent

@@ -1,5 +1,5 @@
 // Finding positions, and entering their balances, by the numbers that the plain book's changes are told by.
-ghost use Rattle.std.specs.Prelude.{◌≡◌, [], ◌∷◌, ◌++◌, length, IfOk, is_ok, if◌then◌else◌, None, option_map, not, nat_le};
+ghost use Rattle.std.specs.Prelude.{◌≡◌, [], ◌∷◌, ◌++◌, length, if◌then◌else◌, None, option_map, not, nat_le};
 ghost use Rattle.plain.specs.Changes.{amended, posted};
 ghost use Rattle.plain.specs.Limits.{most_positions};
 ghost use Rattle.plain.specs.PlainBook.{is_of, position_of, new_position};
@@ -11,19 +11,19 @@ ghost use Rattle.positions.specs.View.{positions_in};
 ghost use Rattle.positions.specs.Years.{in_year};
 
 use crate::{PositionRow, Positions, in_year};
-use fixed_tables::Table;
+use arrayvec::ArrayVec;
 use key_index::KeyIndex;
 use plain::limits::full_of_positions;
-use std::alloc::{AllocError, Global};
 
 impl Positions {
-    // A table without positions. It reserves all the memory that the table will use.
-    pub fn new(heap: Global) -> Result<Positions, AllocError>
-        ensures { IfOk result (λ t. positions_in t ≡ []) }
+    // A table without positions.
+    pub fn new() -> Positions
+        ensures { positions_in result ≡ [] }
     {
-        let rows = Table::new(heap)?;
-        let ids = KeyIndex::new(heap)?;
-        Ok(Positions { rows, ids })
+        Positions {
+            rows: ArrayVec::new(),
+            ids: KeyIndex::new(),
+        }
     }
 
     // Where the position of a branch on the investee of an id stands: a row to change is lent by its place.
@@ -69,17 +69,20 @@ impl Positions {
         full_of_positions(self.len()) && self.place(branch, id).is_none()
     }
 
-    // Adds a position with its first balance at the end, and gives it back where there is no room, as the table does.
-    fn add(&mut self, branch: u8, id: u32, month: u64, balance: u32) -> Result<(), PositionRow>
-        ensures added { positions_in self.new ≡ (if is_ok result then positions_in self.old ++ written month balance (new_position branch id) ∷ [] else positions_in self.old) }
-        ensures room { is_ok result ≡ not (nat_le most_positions (length (positions_in self.old))) }
+    // Adds a position with its first balance at the end, and says whether there was room for it.
+    fn add(&mut self, branch: u8, id: u32, month: u64, balance: u32) -> bool
+        ensures added { positions_in self.new ≡ (if result then positions_in self.old ++ written month balance (new_position branch id) ∷ [] else positions_in self.old) }
+        ensures room { result ≡ not (nat_le most_positions (length (positions_in self.old))) }
     {
+        if full_of_positions(self.len()) {
+            return false;
+        }
         let mut row = PositionRow::new(branch, id);
         row.write(month, balance);
-        self.rows.push(row)?;
+        self.rows.push(row);
         // There is room: as many rows as ids are held.
         self.ids.push(u64::from(id)).unwrap();
-        Ok(())
+        true
     }
 
     // Writes the balance of one month of the position at a place, and touches no other.
@@ -101,7 +104,7 @@ impl Positions {
             return false;
         }
         let Some(at) = self.place(u64::from(branch), u64::from(id)) else {
-            return self.add(branch, id, month, balance).is_ok();
+            return self.add(branch, id, month, balance);
         };
         self.write(at, month, balance);
         true

@@ -1,18 +1,18 @@
 // The positions of a book: what each branch has lent to each investee, in the order of the first posts.
 #![tactic(auto)]
 
-ghost use Rattle.std.specs.Prelude.{◌≡◌, ◌-◌, ◌*◌, ◌^◌, ◌≤◌, Some, if◌then◌else◌, None, sum_by, ◌==◌};
+ghost use Rattle.std.specs.Prelude.{◌≡◌, ◌-◌, ◌*◌, ◌^◌, ◌≤◌, Some, if◌then◌else◌, None, sum_by, ◌==◌, length};
 ghost use Rattle.std.specs.Option.{unwrap_or};
 ghost use Rattle.rules.specs.Months.{months};
 ghost use Rattle.plain.specs.Exposures.{is_bond, closing_of, exposure_of};
+ghost use Rattle.plain.specs.Limits.{most_positions};
 ghost use Rattle.plain.specs.PlainBook.{new_position, balance_of};
-ghost use Rattle.fixed_tables.specs.Tables.{rows_in};
 ghost use Rattle.key_index.specs.Keys.{keys_in};
 ghost use Rattle.positions.specs.Entries.{written};
 ghost use Rattle.positions.specs.Rows.{plain_position, ids_of};
 ghost use Rattle.positions.specs.Years.{in_year};
 
-use fixed_tables::Table;
+use arrayvec::ArrayVec;
 use key_index::KeyIndex;
 use plain::limits::MOST_POSITIONS;
 use rules::MONTHS;
@@ -26,20 +26,20 @@ mod rows_on;
 const YEAR: usize = MONTHS as usize;
 
 // What one branch has lent to one investee, in wan, by months.
-#[derive(Clone, Copy)]
+#[derive(Clone, Copy, Default)]
 struct PositionRow {
     branch: u8,
     id: u32,
     balances: [Option<u32>; YEAR],
 }
 
-// A table of positions with room for all that a book can hold: only making it wants memory. The positions on an investee are
-// found by its id.
+// A table of positions with room for all that a book can hold. The positions on an investee are found by its id.
 #[derive(Drop)]
 pub struct Positions {
-    rows: Table<PositionRow, MOST_POSITIONS>,
+    rows: ArrayVec<PositionRow, MOST_POSITIONS>,
     ids: KeyIndex<MOST_POSITIONS>,
-    ghost indexed: { keys_in ids ≡ ids_of (rows_in rows) },
+    ghost few: { length rows.items ≤ most_positions },
+    ghost indexed: { keys_in ids ≡ ids_of rows.items },
 }
 
 // Whether an investee of the kind has one balance in a year.

@@ -1,7 +1,6 @@
 // Going over the positions on one investee, by the index of the ids.
 ghost use Rattle.std.specs.Prelude.{◌≡◌, ◌≤◌, length};
 ghost use Rattle.plain.specs.Limits.{most_positions};
-ghost use Rattle.fixed_tables.specs.Tables.{rows_in};
 ghost use Rattle.positions.specs.Rows.{rows_on};
 ghost use Rattle.positions.specs.RowsOn.{rows_left};
 
@@ -34,7 +33,7 @@ impl<'p> Iterator for RowsOn<'p> {
 impl Positions {
     // The rows on the investee of an id.
     pub(crate) fn on(&self, id: u32) -> RowsOn<'_>
-        ensures rows { rows_left result ≡ rows_on id (rows_in self.now.rows) }
+        ensures rows { rows_left result ≡ rows_on id self.now.rows.items }
         ensures few { length (rows_left result) ≤ most_positions }
     {
         RowsOn {

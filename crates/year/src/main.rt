@@ -198,7 +198,7 @@ impl Year<'_> {
 
 fn main(rt: HostRuntime) -> io::Result<()> {
     let rule = National;
-    let book = Book::new(rt.alloc(), &rule)?;
+    let book = Book::new(&rule);
     let mut year = Year { rt: &rt, book };
     year.openings()?;
     year.readings()?;

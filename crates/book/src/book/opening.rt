@@ -59,9 +59,7 @@ impl<'r, R: Rule> Book<'r, R> {
         let profile = self.taken(fields)?;
         let reading = emissions(source)?;
         // There is room: `taken` asked.
-        self.investees
-            .push(InvesteeRow::opened(profile, reading))
-            .unwrap();
+        self.investees.push(InvesteeRow::opened(profile, reading));
         Ok(())
     }
 }

@@ -5,7 +5,6 @@ use Rattle.std.proofs.lemmas.Iterator.Adapters.{fits_from_length, at_most_from_y
 use Rattle.plain.specs.Limits.{most_positions}
 use Rattle.plain.specs.Exposures.{exposure_of, lent_by}
 use Rattle.plain.specs.Parts.{exposures}
-use Rattle.fixed_tables.specs.Tables.{rows_in}
 use Rattle.positions.specs.Rows.{plain_position, rows_on}
 use Rattle.positions.specs.RowsOn.{rows_left}
 use Rattle.positions.proofs.Walks.{on-view, exposures-rows}
@@ -13,7 +12,7 @@ use Rattle.positions.proofs.Positions.exposure.Goals as goal
 
 pub returns : goal.returns
 returns c =
-    let rows = rows_in c.args.self.now.rows in
+    let rows = c.args.self.now.rows.items in
     sum_by_from_yields_List (λ row. exposure_of c.args.investee.kind (plain_position row)) (rows_on c.args.investee.id rows) _ _ c.sum.ensures.ran
     (YieldsList-from_map _ (λ row. exposure_of c.args.investee.kind (plain_position row))
     (YieldsList-at c.map.ensures.source (YieldsList-from_first (λ y. y.now) rows_left (rows_on c.args.investee.id rows) c.on.ensures.rows))

@@ -1,13 +1,12 @@
 use Rattle.std.proofs.Common.{length}
 use Rattle.std.proofs.lemmas.List.{length_push}
-use Rattle.fixed_tables.specs.Tables.{rows_in}
 use Rattle.positions.specs.Rows.{rows_on}
 use Rattle.positions.proofs.Walks.{row-next, rows-end, lent-more, lent-all}
 use Rattle.positions.proofs.Positions.lending.Goals as goal
 
 pub loop-row-preserved : goal.loop-row-preserved
 loop-row-preserved c =
-    let rows = rows_in c.args.self.now.rows in
+    let rows = c.args.self.now.rows.items in
     let row = c.in-Some.row.now in
     let turn = row-next c.args.investee.id rows c.into_iter-row-iterator.ensures.into_iter_gives c.on-row-items.ensures.rows c.loop-row.yielded c.loop-row.row-iterator c.loop-row.yielded_by _ c.next.new.self c.in-Some.row c.in-Some.is c.next.ensures.steps in
     rw (length_push c.loop-row.yielded c.in-Some.row)
@@ -16,6 +15,6 @@ loop-row-preserved c =
 
 pub returns : goal.returns
 returns c =
-    let rows = rows_in c.args.self.now.rows in
+    let rows = c.args.self.now.rows.items in
     let end = rows-end c.args.investee.id rows c.into_iter-row-iterator.ensures.into_iter_gives c.on-row-items.ensures.rows c.loop-row.yielded c.loop-row.row-iterator c.loop-row.yielded_by _ c.next.new.self c.in-None.is c.next.ensures.steps in
     lent-all c.args.investee.kind c.args.investee.id rows (length c.loop-row.yielded) c.loop-row.lending end c.loop-row.invariant

@@ -1,8 +1,7 @@
 use Rattle.std.proofs.Common.{length}
-use Rattle.fixed_tables.specs.Tables.{rows_in}
 use Rattle.positions.specs.Rows.{rows_on}
 use Rattle.positions.proofs.Walks.{LentSofar}
 use Rattle.positions.proofs.Positions.lending.Given as goal
 
 abbrev pub invariant-loop-row : goal.invariant-loop-row
-invariant-loop-row l = LentSofar l.fn.investee.kind (rows_on l.fn.investee.id (rows_in l.fn.self.rows)) (length l.yielded) l.lending
+invariant-loop-row l = LentSofar l.fn.investee.kind (rows_on l.fn.investee.id l.fn.self.rows.items) (length l.yielded) l.lending

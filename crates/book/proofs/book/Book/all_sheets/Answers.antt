@@ -1,7 +1,6 @@
 use Rattle.std.proofs.Common.{◌+◌, get_or, refl, ap, ◌∙◌, arith, take_all}
 use lib.ListN.{get_or-replicate}
 use Rattle.std.proofs.ByRecursion.{All-get_or}
-use Rattle.fixed_tables.specs.Tables.{rows_in}
 use Rattle.plain.specs.Branches.{branch_count}
 use Rattle.plain.specs.Limits.{most_investees}
 use Rattle.positions.specs.View.{positions_in}
@@ -18,7 +17,7 @@ pub invariant_of-add_parts : goal.invariant_of-add_parts
 invariant_of-add_parts g c =
     let book = c.args.self.now in
     let read = c.as_slice-row-items.result.now in
-    let all = rows-within (rows_in book.investees) book.positions book.kept read c.as_slice-row-items.ensures.rows in
+    let all = rows-within book.investees.items book.positions book.kept read c.as_slice-row-items.ensures.value in
     record { within = ∣ All-get_or (λ row. WithinBook (positions_in book.positions) (plain_investee row)) read c.loop-row.row-index _ c.loop-row-test.true all ∣₁ }
 
 pub add_parts-requires : goal.add_parts-requires
@@ -26,10 +25,10 @@ add_parts-requires g c =
     let book = c.args.self.now in
     let t = g.R.Rule.tables book.rule.now in
     let read = c.as_slice-row-items.result.now in
-    let all = rows-within (rows_in book.investees) book.positions book.kept read c.as_slice-row-items.ensures.rows in
+    let all = rows-within book.investees.items book.positions book.kept read c.as_slice-row-items.ensures.value in
     record {
       long = c.loop-row.invariant.0;
-      within_limit = λ n h. parts-sofar-within t (plain book) (n + 1) read all c.loop-row.row-index c.loop-row-test.true most_investees (get_or c.loop-row.sums n no_kilograms) (omega (arith, c.as_slice-row-items.ensures.few)) (c.loop-row.invariant.1 n h);
+      within_limit = λ n h. parts-sofar-within t (plain book) (n + 1) read all c.loop-row.row-index c.loop-row-test.true most_investees (get_or c.loop-row.sums n no_kilograms) (omega (arith, c.as_slice-row-items.ensures.fits)) (c.loop-row.invariant.1 n h);
     }
 
 pub loop-row-init : goal.loop-row-init
@@ -54,6 +53,6 @@ returns g c =
     record {
       long = c.loop-row.invariant.0;
       sheets = λ n h. c.loop-row.invariant.1 n h
-          ∙ ap (summed (row_part t (plain book) (n + 1))) (take_all c.loop-row.row-index c.as_slice-row-items.result.now c.loop-row-test.false ∙ c.as_slice-row-items.ensures.rows)
-          ∙ sheet-rows t (rows_in book.investees) book.positions (n + 1);
+          ∙ ap (summed (row_part t (plain book) (n + 1))) (take_all c.loop-row.row-index c.as_slice-row-items.result.now c.loop-row-test.false ∙ c.as_slice-row-items.ensures.value)
+          ∙ sheet-rows t book.investees.items book.positions (n + 1);
     }

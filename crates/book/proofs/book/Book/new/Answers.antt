@@ -6,4 +6,4 @@ use Rattle.book.proofs.book.Book.new.Goals as goal
 
 pub invariant_of-result : goal.invariant_of-result
 invariant_of-result g c =
-    record { kept = kept-as empty _ kept-at-first (λ i. record { investees = plain_investees (c.in_ok-investees.ensures i); positions = c.in_ok-positions.ensures i }) }
+    record { kept = kept-as empty _ kept-at-first (λ i. record { investees = plain_investees (c.new.ensures i); positions = c.new-2.ensures i }) }

@@ -1,8 +1,5 @@
-use Rattle.std.proofs.Common.{◌≡◌, false, leb, is_ok, Ok, Err, [], ◌∷◌, ◌++◌, length, sym, refl, ap, ◌∙◌, arith}
-use Rattle.std.proofs.lemmas.Bool.{cond-false, lt-leb}
+use Rattle.std.proofs.Common.{◌≡◌, sym, refl, arith}
 use Rattle.std.proofs.lemmas.List.{length-map}
-use Rattle.fixed_tables.specs.Tables.{rows_in}
-use Rattle.plain.specs.Limits.{most_investees}
 use Rattle.plain.specs.Runs.{after}
 use Rattle.plain.specs.Steps.{enter}
 use Rattle.book.specs.Rows.{plain_investee, plain_rows}
@@ -17,24 +14,17 @@ use Rattle.book.proofs.book.Book.open.Goals.{After-opened, After-push}
 accepted : (g : given.Over) (c : After-opened g) → Entered (g.R.Rule.tables c.args.self.now.rule.now) (plain c.args.self.now) c.args.fields (g.S.Source.meaning c.args.source.now) c.in_ok-profile.profile c.in_ok-reading.reading
 accepted g c = entered _ _ _ _ _ _ c.in_ok-profile.ensures c.in_ok-reading.ensures
 
-not-full : (g : given.Over) (c : After-push g) → leb most_investees (length (rows_in c.args.self.now.investees)) ≡ false
-not-full g c =
-    let rows = rows_in c.args.self.now.investees in
-    lt-leb most_investees (length rows) (omega (arith, (accepted g (goal.at.invariant_of-self g c).After-opened).room, length-map rows plain_investee))
-
 -- the book is that after the call
-is-after : (g : given.Over) (c : After-push g) → plain_rows (rows_in c.push.new.self) c.args.self.now.positions ≡ after (g.R.Rule.tables c.args.self.now.rule.now) (plain c.args.self.now) (enter c.args.fields (g.S.Source.meaning c.args.source.now))
+is-after : (g : given.Over) (c : After-push g) → plain_rows c.push.new.self.items c.args.self.now.positions ≡ after (g.R.Rule.tables c.args.self.now.rule.now) (plain c.args.self.now) (enter c.args.fields (g.S.Source.meaning c.args.source.now))
 is-after g c =
     let a = accepted g (goal.at.invariant_of-self g c).After-opened in
     let book = c.args.self.now in
-    let rows = rows_in book.investees in
-    let added = c.push.ensures.rows ∙ cond-false (leb most_investees (length rows)) rows (rows ++ c.opened.result ∷ []) (not-full g c) in
-    opened_rows (g.R.Rule.tables book.rule.now) (rows_in book.investees) (rows_in c.push.new.self) book.positions c.args.fields (g.S.Source.meaning c.args.source.now) c.in_ok-profile.profile c.in_ok-reading.reading c.opened.result a added c.opened.ensures
+    let added = c.push.ensures.items in
+    opened_rows (g.R.Rule.tables book.rule.now) book.investees.items c.push.new.self.items book.positions c.args.fields (g.S.Source.meaning c.args.source.now) c.in_ok-profile.profile c.in_ok-reading.reading c.opened.result a added c.opened.ensures
 
-pub unwrap-requires : goal.unwrap-requires
-unwrap-requires g c =
-    let a = (goal.at.unwrap-requires g c).After-push in
-    ap is_ok (c.push.ensures.told ∙ cond-false _ (Err c.opened.result) (Ok tt) (not-full g a))
+pub push-requires : goal.push-requires
+push-requires g c =
+    omega (arith, (accepted g (goal.at.push-requires g c).After-opened).room, length-map c.args.self.now.investees.items plain_investee)
 
 pub invariant_of-self : goal.invariant_of-self
 invariant_of-self g c =

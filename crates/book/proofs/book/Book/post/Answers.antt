@@ -1,5 +1,4 @@
 use Rattle.std.proofs.Common.{◌≡◌, refl, sym, ◌∙◌}
-use Rattle.fixed_tables.specs.Tables.{rows_in}
 use Rattle.plain.specs.Runs.{after}
 use Rattle.plain.specs.Steps.{post}
 use Rattle.positions.specs.View.{positions_in}
@@ -32,7 +31,7 @@ returns-in_err-may_post g c =
     record { book = d.0; rule = refl {a = c.args.self.now.rule}; told = d.1 }
 
 -- the book is that after the call
-is-after : (g : given.Over) (c : After-enter g) → plain_rows (rows_in c.args.self.now.investees) c.enter.new.self ≡ after (g.R.Rule.tables c.args.self.now.rule.now) (plain c.args.self.now) (post c.args.branch c.args.id c.args.month c.args.balance)
+is-after : (g : given.Over) (c : After-enter g) → plain_rows c.args.self.now.investees.items c.enter.new.self ≡ after (g.R.Rule.tables c.args.self.now.rule.now) (plain c.args.self.now) (post c.args.branch c.args.id c.args.month c.args.balance)
 is-after g c =
     book-posted (g.R.Rule.tables c.args.self.now.rule.now) (plain c.args.self.now) c.args.branch c.args.id c.args.month c.args.balance (plain_investee c.in_ok-row.row) c.in_ok-row.ensures (positions_in c.enter.new.self)
     (allowed _ c.in_ok-may_post.ensures) c.enter.result c.enter.ensures.entered c.enter.ensures.positions

@@ -1,12 +1,10 @@
-use Rattle.std.proofs.Common.{◌≡◌, None, sym, refl, ap, ◌∙◌}
-use Rattle.fixed_tables.proofs.Lent.{lent-row}
-use Rattle.fixed_tables.specs.Tables.{rows_in}
+use Rattle.std.proofs.Common.{◌≡◌, None, sym, refl, ap, set, ◌∙◌}
 use Rattle.plain.specs.Changes.{reduced_by}
 use Rattle.plain.specs.PlainBook.{with_investees}
 use Rattle.plain.specs.Refused.{if_read, declined}
 use Rattle.plain.specs.Runs.{after}
 use Rattle.plain.specs.Steps.{reduce}
-use Rattle.book.specs.Rows.{plain_investees, plain_rows}
+use Rattle.book.specs.Rows.{plain_rows}
 use Rattle.book.specs.View.{plain}
 use Rattle.book.proofs.Books.{kept-after}
 use Rattle.book.proofs.Outcomes.{after-accepted, answer-accepted, failed}
@@ -41,12 +39,12 @@ accepted g c =
     is-open (plain c.args.self.now) c.args.id c.in_ok-at.at (if_read m (λ r. None)) c.in_ok-at.ensures ∙ ap (λ n. if_read n (λ r. None)) (sym c.in_ok-reading.ensures)
 
 -- the book is that after the call
-is-after : (g : given.Over) (c : After-reduced_by g) → plain_rows (rows_in (c.get_mut.follows.lender c.reduced_by.result)) c.args.self.now.positions ≡ after (g.R.Rule.tables c.args.self.now.rule.now) (plain c.args.self.now) (reduce c.args.id (g.S.Source.meaning c.args.source.now))
+is-after : (g : given.Over) (c : After-reduced_by g) → plain_rows (set c.args.self.now.investees.items c.in_ok-at.at c.reduced_by.result) c.args.self.now.positions ≡ after (g.R.Rule.tables c.args.self.now.rule.now) (plain c.args.self.now) (reduce c.args.id (g.S.Source.meaning c.args.source.now))
 is-after g c =
     let t = g.R.Rule.tables c.args.self.now.rule.now in
     let p = plain c.args.self.now in
     let m = g.S.Source.meaning c.args.source.now in
-    ap (λ xs. with_investees p xs) (ap plain_investees (lent-row _ _ c.in-Some.is (c.get_mut.follows.holds c.reduced_by.result)) ∙ reread (rows_in c.args.self.now.investees) c.args.id c.in_ok-at.at c.in_ok-at.ensures reduced_by m c.in_ok-reading.reading c.in-Some.row.now c.reduced_by.result (sym c.in_ok-reading.ensures) c.in-Some.ensures.row c.reduced_by.ensures)
+    ap (λ xs. with_investees p xs) (reread c.args.self.now.investees.items c.args.id c.in_ok-at.at c.in_ok-at.ensures reduced_by m c.in_ok-reading.reading c.in-Some.row.now c.reduced_by.result (sym c.in_ok-reading.ensures) c.in-Some.ensures.value c.reduced_by.ensures)
     ∙ sym (after-accepted t p (reduce c.args.id m) (accepted g c))
 
 pub invariant_of-self : goal.invariant_of-self

@@ -1,12 +1,10 @@
-use Rattle.std.proofs.Common.{◌≡◌, None, sym, refl, ap, ◌∙◌}
-use Rattle.fixed_tables.proofs.Lent.{lent-row}
-use Rattle.fixed_tables.specs.Tables.{rows_in}
+use Rattle.std.proofs.Common.{◌≡◌, None, sym, refl, ap, set, ◌∙◌}
 use Rattle.plain.specs.Changes.{restated}
 use Rattle.plain.specs.PlainBook.{with_investees}
 use Rattle.plain.specs.Refused.{if_read, below_zero, declined}
 use Rattle.plain.specs.Runs.{after}
 use Rattle.plain.specs.Steps.{restate}
-use Rattle.book.specs.Rows.{plain_investees, plain_rows}
+use Rattle.book.specs.Rows.{plain_rows}
 use Rattle.book.specs.View.{plain}
 use Rattle.book.proofs.Books.{kept-after}
 use Rattle.book.proofs.Outcomes.{after-accepted, answer-accepted, failed}
@@ -42,12 +40,12 @@ accepted g c =
     is-open (plain c.args.self.now) c.args.id c.in_ok-at.at (if_read m below_zero) c.in_ok-at.ensures ∙ (emissions-ok m c.in_ok-reading.reading c.in_ok-reading.ensures).1
 
 -- the book is that after the call
-is-after : (g : given.Over) (c : After-restated g) → plain_rows (rows_in (c.get_mut.follows.lender c.restated.result)) c.args.self.now.positions ≡ after (g.R.Rule.tables c.args.self.now.rule.now) (plain c.args.self.now) (restate c.args.id (g.S.Source.meaning c.args.source.now))
+is-after : (g : given.Over) (c : After-restated g) → plain_rows (set c.args.self.now.investees.items c.in_ok-at.at c.restated.result) c.args.self.now.positions ≡ after (g.R.Rule.tables c.args.self.now.rule.now) (plain c.args.self.now) (restate c.args.id (g.S.Source.meaning c.args.source.now))
 is-after g c =
     let t = g.R.Rule.tables c.args.self.now.rule.now in
     let p = plain c.args.self.now in
     let m = g.S.Source.meaning c.args.source.now in
-    ap (λ xs. with_investees p xs) (ap plain_investees (lent-row _ _ c.in-Some.is (c.get_mut.follows.holds c.restated.result)) ∙ reread (rows_in c.args.self.now.investees) c.args.id c.in_ok-at.at c.in_ok-at.ensures restated m c.in_ok-reading.reading c.in-Some.row.now c.restated.result (emissions-ok m c.in_ok-reading.reading c.in_ok-reading.ensures).0 c.in-Some.ensures.row c.restated.ensures)
+    ap (λ xs. with_investees p xs) (reread c.args.self.now.investees.items c.args.id c.in_ok-at.at c.in_ok-at.ensures restated m c.in_ok-reading.reading c.in-Some.row.now c.restated.result (emissions-ok m c.in_ok-reading.reading c.in_ok-reading.ensures).0 c.in-Some.ensures.value c.restated.ensures)
     ∙ sym (after-accepted t p (restate c.args.id m) (accepted g c))
 
 pub invariant_of-self : goal.invariant_of-self

@@ -1,6 +1,5 @@
 use Rattle.std.proofs.Common.{ap, ◌∙◌, arith, take_all}
 use Rattle.std.proofs.ByRecursion.{All-get_or}
-use Rattle.fixed_tables.specs.Tables.{rows_in}
 use Rattle.plain.specs.Limits.{most_investees}
 use Rattle.positions.specs.View.{positions_in}
 use Rattle.book.specs.Rows.{plain_investee}
@@ -18,7 +17,7 @@ pub invariant_of-part : goal.invariant_of-part
 invariant_of-part g c =
     let book = c.args.self.now in
     let read = c.as_slice-row-items.result.now in
-    let all = rows-within (rows_in book.investees) book.positions book.kept read c.as_slice-row-items.ensures.rows in
+    let all = rows-within book.investees.items book.positions book.kept read c.as_slice-row-items.ensures.value in
     record { within = ∣ All-get_or (λ row. WithinBook (positions_in book.positions) (plain_investee row)) read c.loop-row.row-index _ c.loop-row-test.true all ∣₁ }
 
 pub added-sum-requires : goal.added-sum-requires
@@ -26,8 +25,8 @@ added-sum-requires g c =
     let book = c.args.self.now in
     let t = g.R.Rule.tables book.rule.now in
     let read = c.as_slice-row-items.result.now in
-    let all = rows-within (rows_in book.investees) book.positions book.kept read c.as_slice-row-items.ensures.rows in (
-      parts-sofar-within t (plain book) c.args.branch read all c.loop-row.row-index c.loop-row-test.true most_investees c.loop-row.sum (omega (arith, c.as_slice-row-items.ensures.few)) c.loop-row.invariant,
+    let all = rows-within book.investees.items book.positions book.kept read c.as_slice-row-items.ensures.value in (
+      parts-sofar-within t (plain book) c.args.branch read all c.loop-row.row-index c.loop-row-test.true most_investees c.loop-row.sum (omega (arith, c.as_slice-row-items.ensures.fits)) c.loop-row.invariant,
       next-part-within t (plain book) c.args.branch read all c.loop-row.row-index c.loop-row-test.true _ c.part-part.result c.part-part.ensures,
     )
 
@@ -43,5 +42,5 @@ returns g c =
     let book = c.args.self.now in
     let t = g.R.Rule.tables book.rule.now in
     c.loop-row.invariant
-    ∙ ap (summed (row_part t (plain book) c.args.branch)) (take_all c.loop-row.row-index c.as_slice-row-items.result.now c.loop-row-test.false ∙ c.as_slice-row-items.ensures.rows)
-    ∙ sheet-rows t (rows_in book.investees) book.positions c.args.branch
+    ∙ ap (summed (row_part t (plain book) c.args.branch)) (take_all c.loop-row.row-index c.as_slice-row-items.result.now c.loop-row-test.false ∙ c.as_slice-row-items.ensures.value)
+    ∙ sheet-rows t book.investees.items book.positions c.args.branch

@@ -1,6 +1,5 @@
 // The book total.
 ghost use Rattle.std.specs.Prelude.{◌≡◌, map, length, slice_index_or, take};
-ghost use Rattle.fixed_tables.specs.Tables.{rows_in};
 ghost use Rattle.plain.specs.declared.answers.Answer.TheVariants.{Book as BookAnswer};
 ghost use Rattle.plain.specs.Runs.{answer};
 ghost use Rattle.plain.specs.Steps.{ask_book_total};
@@ -48,7 +47,7 @@ impl<'r, R: Rule> Book<'r, R> {
     // The lines of all investees, in the order of their openings. The rest of the table stays empty: an array is made by one
     // closure, and an ArrayVec would be filled by a loop.
     fn lines(&self) -> [Line; MOST_INVESTEES]
-        ensures { take (length (rows_in self.now.investees)) result ≡ map (line_of (R.tables self.now.rule.now) (plain self.now)) (plain self.now).investees }
+        ensures { take (length self.now.investees.items) result ≡ map (line_of (R.tables self.now.rule.now) (plain self.now)) (plain self.now).investees }
     {
         array::from_fn(|place| self.line_at(place))
     }

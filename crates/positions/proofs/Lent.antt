@@ -1,11 +1,7 @@
--- What a table lends: what holds where a row is lent, and that the place is past the end where none is.
-use Rattle.std.proofs.Common.{◌≡◌, ℕ, ◌<◌, ◌≤◌, cond, Some, None, Option, OnSome, IsSome, ◌↔◌, sym, ap, ⊎_elim, arith}
+-- A row that was asked for and is not there: its place is past the end.
+use Rattle.std.proofs.Common.{◌≡◌, ℕ, ◌<◌, ◌≤◌, cond, Some, None, Option, IsSome, ◌↔◌, sym, ap, ⊎_elim, arith}
 use Rattle.std.proofs.lemmas.Bool.{cases_lt}
 use Rattle.std.proofs.lemmas.Option.{none-some}
-
-pub lent-row : {X : Type 0} {P : Type 0} (o : Option X) (x : X) → o ≡ Some x → OnSome o P → P
-lent-row None x is p = absurd (none-some x is)
-lent-row (Some y) x is p = p
 
 pub lent-none : {X : Type 0} (o : Option X) (k n : ℕ) → o ≡ None → (IsSome o ↔ (k < n)) → n ≤ k
 lent-none None k n is there =
