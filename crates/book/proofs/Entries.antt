@@ -1,5 +1,5 @@
 -- What a post and an amendment do to the exposure of their investee.
-use Rattle.std.proofs.Common.{◌≡◌, ℕ, ◌+◌, ◌-◌, ◌*◌, ◌<◌, ◌≤◌, Bool, true, false, cond, not, ◌&&◌, eqb, List, [], ◌∷◌, ◌++◌, map, length, get_or, set, is_some, Some, None, sum_by, Option, unwrap_or, sym, refl, ap, ◌∙◌, ⊎_elim, arith}
+use Rattle.std.proofs.Common.{◌≡◌, ℕ, ◌+◌, ◌-◌, ◌*◌, ◌<◌, ◌≤◌, Bool, true, false, cond, not, ◌&&◌, eqb, List, [], ◌∷◌, ◌++◌, map, length, length-set, get_or, set, is_some, Some, None, sum_by, Option, unwrap_or, sym, refl, ap, ◌∙◌, ⊎_elim, arith}
 use Rattle.std.specs.List.{AllByRecursion}
 use Rattle.std.proofs.lemmas.List.{get_or-set_same, get_or-replicate}
 use Rattle.std.proofs.lemmas.List.Sums.{sum_by-set, sum_by_push}
@@ -43,13 +43,17 @@ exposure-moved kind q m v long low high closing = by (is_bond kind) closing
     short = omega arith
 
     by : (bond : Bool) → (bond && not (eqb m months)) ≡ false
-        → cond bond (months * closing_of (with_balance m v q)) (sum_by (λ n. unwrap_or n 0) (set q.balances (m - 1) (Some v))) + cond bond (months * unwrap_or (balance_of m q) 0) (unwrap_or (balance_of m q) 0)
-        ≡ cond bond (months * closing_of q) (sum_by (λ n. unwrap_or n 0) q.balances) + cond bond (months * v) v
+        → cond bond (length (set q.balances (m - 1) (Some v)) * closing_of (with_balance m v q)) (sum_by (λ n. unwrap_or n 0) (set q.balances (m - 1) (Some v))) + cond bond (months * unwrap_or (balance_of m q) 0) (unwrap_or (balance_of m q) 0)
+        ≡ cond bond (length q.balances * closing_of q) (sum_by (λ n. unwrap_or n 0) q.balances) + cond bond (months * v) v
     by true e =
         let last : m ≡ months = eqb-true m months (not-false (eqb m months) e) in
-        let new : closing_of (with_balance m v q) ≡ v = ap (λ n. unwrap_or (get_or (set q.balances (m - 1) (Some v)) (n - 1) None) 0) (sym last) ∙ ap (λ n. unwrap_or n 0) (get_or-set_same q.balances (m - 1) (Some v) None short) in
-        let old : unwrap_or (balance_of m q) 0 ≡ closing_of q = ap (λ n. unwrap_or (balance_of n q) 0) last in
-        omega (arith, new, old)
+        let at_end : length (set q.balances (m - 1) (Some v)) ≡ m = length-set q.balances (m - 1) (Some v) ∙ long ∙ sym last in
+        let counts : length (with_balance m v q).balances ≡ months = at_end ∙ last in
+        let new : closing_of (with_balance m v q) ≡ v = ap (λ n. unwrap_or (get_or (set q.balances (m - 1) (Some v)) (n - 1) None) 0) at_end ∙ ap (λ n. unwrap_or n 0) (get_or-set_same q.balances (m - 1) (Some v) None short) in
+        let old : unwrap_or (balance_of m q) 0 ≡ closing_of q = ap (λ n. unwrap_or (balance_of n q) 0) (last ∙ sym long) in
+        let was : length q.balances * closing_of q ≡ months * closing_of q = ap (λ n. n * closing_of q) long in
+        let is : length (set q.balances (m - 1) (Some v)) * closing_of (with_balance m v q) ≡ months * closing_of (with_balance m v q) = ap (λ n. n * closing_of (with_balance m v q)) counts in
+        omega (arith, new, old, was, is)
     by false e = sum_by-set (λ n. unwrap_or n 0) q.balances (m - 1) (Some v) None short
 
 -- ---- all exposures to the investee

@@ -7,12 +7,12 @@ use Rattle.rules.specs.Tables.{Tables, Lawful}
 abbrev pub asset_tables : Tables
 asset_tables = record {
   bases = λ kind figures. given figures.total_assets;
-  reasons = λ kind size days exposure closing. 0;
+  reasons = λ financing. 0;
 }
 
 -- a figure within its limit is an amount in range, or is not given
 pub assets-lawful : Lawful asset_tables
 assets-lawful = record {
   bases_in_range = λ kind figures within. given-in-range figures.total_assets within.total_assets;
-  reasons_in_range = λ kind size days exposure closing. lit≤ tt;
+  reasons_in_range = λ financing. lit≤ tt;
 }

@@ -8,7 +8,7 @@ use Rattle.rules.specs.Tables.{Tables, Lawful}
 abbrev pub from_days_tables : ℕ → Tables
 from_days_tables least = record {
   bases = λ kind figures. given_or_whole figures.revenue;
-  reasons = λ kind size days exposure closing. cond (nat_lt days least) 1 0;
+  reasons = λ financing. cond (nat_lt financing.days least) 1 0;
 }
 
 one-or-none : (b : Bool) → cond b 1 0 ≤ 9
@@ -18,5 +18,5 @@ one-or-none false = lit≤ tt
 pub from-days-lawful : (least : ℕ) → Lawful (from_days_tables least)
 from-days-lawful least = record {
   bases_in_range = λ kind figures within. whole_in_range figures.revenue within.revenue;
-  reasons_in_range = λ kind size days exposure closing. one-or-none (nat_lt days least);
+  reasons_in_range = λ financing. one-or-none (nat_lt financing.days least);
 }

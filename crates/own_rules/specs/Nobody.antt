@@ -5,10 +5,10 @@ use Rattle.rules.specs.declared.figures.Base.TheVariants.{Whole}
 use Rattle.rules.specs.Tables.{Tables, Lawful}
 
 abbrev pub nobody_tables : Tables
-nobody_tables = record { bases = λ kind figures. Ok Whole; reasons = λ kind size days exposure closing. 9 }
+nobody_tables = record { bases = λ kind figures. Ok Whole; reasons = λ financing. 9 }
 
 pub nobody-lawful : Lawful nobody_tables
 nobody-lawful = record {
   bases_in_range = λ kind figures within. tt;
-  reasons_in_range = λ kind size days exposure closing. lit≤ tt;
+  reasons_in_range = λ financing. lit≤ tt;
 }

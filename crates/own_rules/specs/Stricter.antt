@@ -6,7 +6,7 @@ use Rattle.rules.specs.Tables.{Tables, Lawful}
 abbrev pub stricter_tables : ℕ → Tables → Tables
 stricter_tables least t = record {
   bases = t.bases;
-  reasons = λ kind size days exposure closing. cond (nat_lt days least) 5 (t.reasons kind size days exposure closing);
+  reasons = λ financing. cond (nat_lt financing.days least) 5 (t.reasons financing);
 }
 
 five-or-less : (b : Bool) (n : ℕ) → n ≤ 9 → cond b 5 n ≤ 9
@@ -16,5 +16,5 @@ five-or-less false n h = h
 pub stricter-lawful : (least : ℕ) (t : Tables) → Lawful t → Lawful (stricter_tables least t)
 stricter-lawful least t law = record {
   bases_in_range = law.bases_in_range;
-  reasons_in_range = λ kind size days exposure closing. five-or-less (nat_lt days least) (t.reasons kind size days exposure closing) (law.reasons_in_range kind size days exposure closing);
+  reasons_in_range = λ financing. five-or-less (nat_lt financing.days least) (t.reasons financing) (law.reasons_in_range financing);
 }

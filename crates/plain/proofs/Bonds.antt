@@ -1,5 +1,5 @@
 -- What every run keeps of bonds: each position on one has a balance in the last month only.
-use Rattle.std.proofs.Common.{◌≡◌, ℕ, zero, suc, ◌-◌, Bool, true, false, eqb, ◌≢◌, List, [], ◌∷◌, ◌++◌, get_or, replicate, Some, None, Option, Result, sum_by, unwrap_or, sym, refl, ap, ◌∙◌, subst, ap₂, arith}
+use Rattle.std.proofs.Common.{◌≡◌, ℕ, zero, suc, ◌-◌, Bool, true, false, eqb, ◌≢◌, List, [], ◌∷◌, ◌++◌, length, length-set, get_or, set, replicate, Some, None, Option, Result, sum_by, unwrap_or, sym, refl, ap, ◌∙◌, subst, ap₂, arith}
 use Rattle.std.specs.List.{AllByRecursion}
 use Rattle.std.proofs.ByRecursion.{All-push, All-weaker, all_kept_by, kept_by_passes}
 use Rattle.std.proofs.lemmas.List.{get_or-set_other}
@@ -13,7 +13,7 @@ use Rattle.rules.specs.declared.investees.Profile.{Profile}
 use Rattle.sources.specs.declared.reading.Reading.{Reading}
 use Rattle.plain.specs.Changes.{opened, restated, reduced_by, read_into, added, with_position, amended, changed}
 use Rattle.plain.specs.Exposures.{is_bond, closing_of, positions_on}
-use Rattle.plain.specs.Kept.{PostedAtClosingOnly, KeptByEveryRun, KeptOfBonds}
+use Rattle.plain.specs.Kept.{PositionInRange, PostedAtClosingOnly, KeptByEveryRun, KeptOfBonds}
 use Rattle.plain.specs.Lists.{change_first}
 use Rattle.plain.specs.PlainBook.{PlainInvestee, PlainPosition, PlainBook, empty, with_investees, with_positions, id_of, has_id, is_open, new_position, with_balance}
 use Rattle.plain.specs.Refused.{declined, bond_outside_closing}
@@ -22,7 +22,7 @@ use Rattle.plain.specs.Steps.{Meaning, Step, enter, restate, reduce, post, amend
 use Rattle.plain.proofs.Accepted.{by-a-call, Entered, opened-none, posted-none, amended-none}
 use Rattle.plain.proofs.Kept.{all-profiles, no-positions, no-position-yet, all-entered, same-profile}
 use Rattle.plain.proofs.Lists.{first-all, all_both}
-use Rattle.plain.proofs.Positions.{all-with-position, all-amended, others-amended, others-posted}
+use Rattle.plain.proofs.Positions.{new-in-range, all-with-position, all-amended, others-amended, others-posted}
 
 -- if the investee is a bond, these positions have a balance in the last month only
 abbrev AtClosing : PlainInvestee → List PlainPosition → Type 0
@@ -52,8 +52,11 @@ none-anywhere (suc n) (suc i) = none-anywhere n i
 new-at-closing : (b id : ℕ) → PostedAtClosingOnly (new_position b id)
 new-at-closing b id m other = none-anywhere months (m - 1)
 
-balanced-at-closing : (m v : ℕ) → m ≡ months → (q : PlainPosition) → PostedAtClosingOnly q → PostedAtClosingOnly (with_balance m v q)
-balanced-at-closing m v last q h n other = get_or-set_other q.balances (m - 1) (n - 1) (Some v) None (λ e. other (omega arith)) ∙ h n other
+balanced-at-closing : (m v : ℕ) → m ≡ months → (q : PlainPosition) → length q.balances ≡ months → PostedAtClosingOnly q → PostedAtClosingOnly (with_balance m v q)
+balanced-at-closing m v last q long h n other =
+    let same : length (set q.balances (m - 1) (Some v)) ≡ length q.balances = length-set q.balances (m - 1) (Some v) in
+    let not_last : n ≢ length q.balances = λ e. other (e ∙ sym same) in
+    get_or-set_other q.balances (m - 1) (n - 1) (Some v) None (λ e. not_last (omega arith)) ∙ h n not_last
 
 -- a year of balances, none of which is posted, and one of which is
 none-posted : (vs : List (Option ℕ)) → ((i : ℕ) → get_or vs i None ≡ None) → sum_by (λ v. unwrap_or v 0) vs ≡ 0
@@ -67,7 +70,7 @@ one-posted (v ∷ vs) (suc k) none = omega (arith, sum_by-cons (λ (v : Option �
 
 pub closing-alone : (q : PlainPosition) → PostedAtClosingOnly q → sum_by (λ v. unwrap_or v 0) q.balances ≡ closing_of q
 closing-alone q h =
-    one-posted q.balances (months - 1) (λ i ne.
+    one-posted q.balances (length q.balances - 1) (λ i ne.
     let before : suc i - 1 ≡ i = omega arith in
     subst (λ j. get_or q.balances j None ≡ None) before (h (suc i) (λ e. ne (omega arith))))
 
@@ -93,10 +96,11 @@ bonds-read p id change same ok = record {
 
 -- an entry on positions among which those on each bond have what the book's own have
 bonds-entered : (t : Tables) (p : PlainBook) (b id m v : ℕ) (was : Bool) (qs : List PlainPosition) → KeptByEveryRun p → KeptOfBonds p → Entered t p b id m v was (amended b id m v qs)
+    → AllByRecursion (λ q. length q.balances ≡ months) qs
     → ((j : ℕ) → AllByRecursion (λ q. q.id ≡ j → PostedAtClosingOnly q) p.positions → AllByRecursion (λ q. q.id ≡ j → PostedAtClosingOnly q) qs)
     → ((j : ℕ) → j ≢ id → positions_on j (amended b id m v qs) ≡ positions_on j p.positions)
     → KeptOfBonds (with_positions p (amended b id m v qs))
-bonds-entered t p b id m v was qs kept ok entry more others = record {
+bonds-entered t p b id m v was qs kept ok entry long more others = record {
   posted_at_closing_only = all-entered p id x (amended b id m v qs) kept entry.found others AtClosing ok.posted_at_closing_only own;
 }
   where
@@ -109,8 +113,9 @@ bonds-entered t p b id m v was qs kept ok entry more others = record {
     own : AtClosing x (positions_on (id_of x) (amended b id m v qs))
     own bond =
         on-of-all PostedAtClosingOnly (id_of x) (amended b id m v qs)
-        (all-amended b id m v (λ q. q.id ≡ id_of x → PostedAtClosingOnly q) (λ q h same. balanced-at-closing m v (closing x m entry.in_closing_month bond) q (h same)) qs
-        (more (id_of x) (all-of-on PostedAtClosingOnly (id_of x) p.positions (before bond))))
+        (All-weaker _ _ (λ q h. h.1) (amended b id m v qs)
+        (all-amended b id m v (λ q. (length q.balances ≡ months) × (q.id ≡ id_of x → PostedAtClosingOnly q)) (λ q h. (length-set q.balances (m - 1) (Some v) ∙ h.0, λ same. balanced-at-closing m v (closing x m entry.in_closing_month bond) q h.0 (h.1 same))) qs
+        (all_both _ _ qs long (more (id_of x) (all-of-on PostedAtClosingOnly (id_of x) p.positions (before bond))))))
 
 bonds-changed : (t : Tables) (p : PlainBook) (c : Step) → KeptByEveryRun p → KeptOfBonds p → declined t p c ≡ None → KeptOfBonds (changed p c)
 bonds-changed t p (enter fields meaning) kept ok e =
@@ -121,9 +126,10 @@ bonds-changed t p (restate id meaning) kept ok e = bonds-read p id (read_into re
 bonds-changed t p (reduce id meaning) kept ok e = bonds-read p id (read_into reduced_by meaning) (same-profile reduced_by (λ r x. refl) meaning) ok
 bonds-changed t p (post b id m v) kept ok e =
     bonds-entered t p b id m v false (with_position b id p.positions) kept ok (posted-none t p b id m v e).0
+    (All-weaker _ _ (λ q h. h.a_place_for_each_month) (with_position b id p.positions) (all-with-position b id p.positions PositionInRange kept.positions_in_range (new-in-range b id (posted-none t p b id m v e).0.in_range.branch)))
     (λ j all. all-with-position b id p.positions (λ q. q.id ≡ j → PostedAtClosingOnly q) all (λ same. new-at-closing b id)) (λ j ne. others-posted b id m v j ne p.positions)
 bonds-changed t p (amend b id m v) kept ok e =
-    bonds-entered t p b id m v true p.positions kept ok (amended-none t p b id m v e) (λ j all. all) (λ j ne. others-amended b id m v j ne p.positions)
+    bonds-entered t p b id m v true p.positions kept ok (amended-none t p b id m v e) (All-weaker _ _ (λ q h. h.a_place_for_each_month) p.positions kept.positions_in_range) (λ j all. all) (λ j ne. others-amended b id m v j ne p.positions)
 bonds-changed t p (ask_part id b) kept ok e = ok
 bonds-changed t p (ask_total id) kept ok e = ok
 bonds-changed t p (ask_sheet b) kept ok e = ok

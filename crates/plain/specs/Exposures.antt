@@ -2,9 +2,10 @@
 --   exposure          month balances added up over the year, an unposted month as 0
 --   closing balance   that of the last month of the year
 --   reason            why the rule leaves the investee out; 0 where it is counted
-use Rattle.std.specs.Prelude.{ℕ, ◌*◌, Bool, true, false, cond, List, map, ℤ, Ok, Err, sum_by, filter, Result, ◌==◌, nat_eq}
+use Rattle.std.specs.Prelude.{ℕ, ◌*◌, Bool, true, false, cond, List, map, length, ℤ, Ok, Err, sum_by, filter, Result, ◌==◌, nat_eq}
 use Rattle.std.specs.Option.{unwrap_or}
 use Rattle.faults.specs.declared.Refusal.{Refusal}
+use Rattle.rules.specs.Investees.{financing_of}
 use Rattle.rules.specs.Months.{months}
 use Rattle.rules.specs.Tables.{Tables}
 use Rattle.rules.specs.declared.figures.Base.{Base}
@@ -26,11 +27,11 @@ is_bond Bond = true
 
 -- the closing balance of a position, an unposted one as 0
 abbrev pub closing_of : PlainPosition → ℕ
-closing_of q = unwrap_or (balance_of months q) 0
+closing_of q = unwrap_or (balance_of (length q.balances) q) 0
 
 -- a bond has one balance, that of the last month, and it is counted for each month
 abbrev pub exposure_of : Kind → PlainPosition → ℕ
-exposure_of kind q = cond (is_bond kind) (months * closing_of q) (sum_by (λ m. unwrap_or m 0) q.balances)
+exposure_of kind q = cond (is_bond kind) (length q.balances * closing_of q) (sum_by (λ m. unwrap_or m 0) q.balances)
 
 -- the positions on the investee of an id, in their order
 abbrev pub positions_on : ℕ → List PlainPosition → List PlainPosition
@@ -66,7 +67,7 @@ denominator_of t x = denominator_from (t.bases x.profile.kind x.profile.figures)
 
 -- the rule's reason to leave an investee out, with what is lent to it
 abbrev pub reason_of : Tables → List PlainPosition → PlainInvestee → ℕ
-reason_of t qs x = t.reasons x.profile.kind x.profile.size x.profile.days (exposure_to x qs) (closing_to x qs)
+reason_of t qs x = t.reasons (financing_of x.profile (exposure_to x qs) (closing_to x qs))
 
 abbrev pub is_counted : Tables → List PlainPosition → PlainInvestee → Bool
 is_counted t qs x = reason_of t qs x == 0

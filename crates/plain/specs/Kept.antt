@@ -47,7 +47,7 @@ pub record KeptByEveryRun (p : PlainBook) : Type 0 where
 
 -- no month but the last has a balance
 abbrev pub PostedAtClosingOnly : PlainPosition → Type 0
-PostedAtClosingOnly q = (m : ℕ) → m ≢ months → balance_of m q ≡ None
+PostedAtClosingOnly q = (m : ℕ) → m ≢ length q.balances → balance_of m q ≡ None
 
 -- every position on a bond
 pub record KeptOfBonds (p : PlainBook) : Type 0 where

@@ -4,13 +4,14 @@ use Rattle.rules.specs.declared.figures.Figures.{Figures}
 use Rattle.rules.specs.declared.investees.Profile.{Profile}
 use Rattle.rules.specs.declared.rule.Attribution.{Attribution}
 use Rattle.rules.specs.Figures.{WithinLimits}
+use Rattle.rules.specs.Investees.{financing_of}
 use Rattle.rules.specs.Tables.{Tables, BaseInRange}
 
 -- by its exposure over the year and its closing balance
 abbrev pub attribution_of : Tables → Profile → ℕ → ℕ → Attribution
 attribution_of t x exposure closing = record {
   base = t.bases x.kind x.figures;
-  reason = t.reasons x.kind x.size x.days exposure closing;
+  reason = t.reasons (financing_of x exposure closing);
 }
 
 -- what holds of every rule's answers

@@ -29,7 +29,7 @@ national_reasons GeneralLoan size days exposure closing =
 national_reasons Bond size days exposure closing = 0
 
 abbrev pub national_tables : Tables
-national_tables = record { bases = national_bases; reasons = national_reasons }
+national_tables = record { bases = national_bases; reasons = λ f. national_reasons f.kind f.size f.days f.exposure f.closing }
 
 -- which figure the guide divides by
 abbrev pub NationalDivides : Kind → Figures → Result Base Refusal → Type 0

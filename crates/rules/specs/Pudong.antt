@@ -32,7 +32,7 @@ pudong_reasons GeneralLoan size days exposure closing =
 pudong_reasons Bond size days exposure closing = 0
 
 abbrev pub pudong_tables : Tables
-pudong_tables = record { bases = pudong_bases; reasons = pudong_reasons }
+pudong_tables = record { bases = pudong_bases; reasons = λ f. pudong_reasons f.kind f.size f.days f.exposure f.closing }
 
 -- which figure the guide divides by
 abbrev pub PudongDivides : Kind → Figures → Result Base Refusal → Type 0

@@ -1,6 +1,6 @@
 -- A rule, as its two tables.
 --   bases     a kind and figures, to what exposures are divided by
---   reasons   a kind, a size, days, exposure and closing balance, to 0 (counted) or a reason from 1 to 9
+--   reasons   how an investee is financed, to 0 (counted) or a reason from 1 to 9
 use Rattle.std.specs.Prelude.{◌≡◌, ℕ, ◌≤◌, ◌⊎◌, Ok, Err, Result}
 use Rattle.faults.specs.declared.Refusal.{Refusal}
 use Rattle.faults.specs.declared.Refusal.TheVariants.{KindNotCovered, FigureNotGiven}
@@ -9,16 +9,15 @@ use Rattle.rules.specs.declared.figures.Base.TheVariants.{Amount, Whole}
 use Rattle.rules.specs.declared.figures.Figures.{Figures}
 use Rattle.rules.specs.declared.investees.Financing.{Financing}
 use Rattle.rules.specs.declared.kinds.Kind.{Kind}
-use Rattle.rules.specs.declared.kinds.Size.{Size}
 use Rattle.rules.specs.Figures.{most_figure, WithinLimits}
 
 pub record Tables : Type 0 where
   pub bases : Kind → Figures → Result Base Refusal
-  pub reasons : Kind → Size → ℕ → ℕ → ℕ → ℕ
+  pub reasons : Financing → ℕ
 
 -- the reason of an investee as it is financed
 abbrev pub reason_for : Tables → Financing → ℕ
-reason_for t f = t.reasons f.kind f.size f.days f.exposure f.closing
+reason_for t f = t.reasons f
 
 -- an amount that a figure can be, whatever the exposures add up to, or one of a rule's two refusals
 abbrev pub BaseInRange : Result Base Refusal → Type 0
@@ -29,4 +28,4 @@ BaseInRange (Err e) = (e ≡ KindNotCovered) ⊎ (e ≡ FigureNotGiven)
 -- what every rule shows of its tables
 pub record Lawful (t : Tables) : Type 0 where
   pub bases_in_range : (kind : Kind) (figures : Figures) → WithinLimits figures → BaseInRange (t.bases kind figures)
-  pub reasons_in_range : (kind : Kind) (size : Size) (days exposure closing : ℕ) → t.reasons kind size days exposure closing ≤ 9
+  pub reasons_in_range : (financing : Financing) → t.reasons financing ≤ 9
