@@ -3,10 +3,18 @@
 use std::collections::{BTreeMap, BTreeSet};
 use std::fmt;
 
+use crate::limits::Limits;
+
 /// The refusals that a file can get. 13, 15 and 23 are not among them: no cut leaves a reading
 /// below 0, more than 200 investees are 31, and a file amends nothing.
 const FROM_A_FILE: [u8; 20] =
     [1, 2, 3, 4, 5, 6, 10, 11, 12, 14, 16, 20, 21, 22, 24, 25, 26, 30, 31, 32];
+
+/// The places of a refused field on a line: whole, and each field of the longest line as laid out,
+/// an energy bill with 16 terms, with one field too many.
+const PLACES: std::ops::RangeInclusive<usize> = 0..=48;
+/// The places of a term.
+const TERMS: std::ops::RangeInclusive<usize> = 1..=16;
 
 /// Whether the investees' lines of a page add up to its total, and its `B` lines too.
 pub fn check_sums(printed: &str) -> Result<(), String> {
@@ -48,10 +56,12 @@ pub struct Tally {
     refusals: BTreeMap<u8, BTreeMap<u8, Found>>,
     /// Investees on pages, by rule and reason.
     investees: BTreeMap<(String, String), usize>,
+    limits: Limits,
 }
 
 impl Tally {
     pub fn add(&mut self, file: &[u8], printed: &str) {
+        self.limits.add(file, printed);
         let fields: Vec<&str> = printed.split_whitespace().collect();
         if let ["X", _, refusal, place, source] = fields[..] {
             let of_refusal = self.refusals.entry(refusal.parse().unwrap_or(0)).or_default();
@@ -69,6 +79,25 @@ impl Tally {
             }
         }
     }
+
+    /// What a comparison should come to and this one did not: a refusal that a file can get, a
+    /// place of a refused field or term, a limit from within or from beyond.
+    pub fn missed(&self) -> Vec<String> {
+        let refusals = FROM_A_FILE.iter().filter(|it| !self.refusals.contains_key(it));
+        let places = PLACES.filter(|place| !self.was_at(30, 0, *place));
+        let terms = TERMS.filter(|place| !self.was_at(1, 2, *place));
+        refusals
+            .map(|refusal| format!("refusal {refusal}"))
+            .chain(places.map(|place| format!("a field refused at place {place}")))
+            .chain(terms.map(|place| format!("a term refused at place {place}")))
+            .chain(self.limits.missed())
+            .collect()
+    }
+
+    fn was_at(&self, refusal: u8, source: u8, place: usize) -> bool {
+        let found = self.refusals.get(&refusal).and_then(|sources| sources.get(&source));
+        found.is_some_and(|found| found.places.contains(&place))
+    }
 }
 
 impl fmt::Display for Tally {
@@ -82,15 +111,11 @@ impl fmt::Display for Tally {
             let sources: Vec<String> = sources.iter().map(in_words).collect();
             writeln!(out, "refusal {refusal}: {count} ({})", sources.join("; "))?;
         }
-        let missed: Vec<String> = FROM_A_FILE
-            .iter()
-            .filter(|refusal| !self.refusals.contains_key(refusal))
-            .map(u8::to_string)
-            .collect();
+        let missed = self.missed();
         if missed.is_empty() {
-            writeln!(out, "every refusal that a file can get was met")
+            writeln!(out, "every refusal, place and limit that a file can come to was met")
         } else {
-            writeln!(out, "refusals not met: {}", missed.join(" "))
+            writeln!(out, "not met: {}", missed.join(", "))
         }
     }
 }

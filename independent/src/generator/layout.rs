@@ -8,6 +8,8 @@ pub struct Text {
     pub lines: Vec<Vec<u8>>,
     investees: usize,
     posts: usize,
+    /// How often its recipe was used before.
+    round: usize,
 }
 
 type Line = Vec<u8>;
@@ -73,11 +75,12 @@ const ODD_FIELDS: &[&[u8]] = &[
 ];
 
 impl Text {
-    pub fn new(portfolio: &Portfolio) -> Text {
+    pub fn new(portfolio: &Portfolio, round: usize) -> Text {
         Text {
             lines: portfolio.lines(),
             investees: portfolio.investees.len(),
             posts: portfolio.posts.len(),
+            round,
         }
     }
 
@@ -120,16 +123,17 @@ fn odd_field(random: &mut Random, text: &mut Text) {
     });
 }
 
-/// A field of an investee's line with sixteen terms.
+/// A field of an investee's line with sixteen terms: each of them in turn.
 fn odd_field_of_a_bill(random: &mut Random, text: &mut Text) {
     let Some(line) = text.any_investee(random) else { return };
+    let place = text.round % 47;
     text.edit(line, |fields| {
         fields.truncate(13);
         fields.extend([b"P".to_vec(), b"16".to_vec()]);
         fields.extend(vec![b"5".to_vec(); 32]);
         match random.between(1, 3) {
-            1 => fields.truncate(random.between(13, 46) as usize),
-            _ => fields[random.place(47)] = random.pick(ODD_FIELDS).to_vec(),
+            1 => fields.truncate(place.max(1)),
+            _ => fields[place] = random.pick(ODD_FIELDS).to_vec(),
         }
     });
 }

@@ -70,7 +70,7 @@ fn layout_sample(random: &mut Random, turn: usize) -> Sample {
         let rule = sound::any_rule(random);
         sound::portfolio(random, rule, &shape)
     };
-    let mut text = Text::new(&portfolio);
+    let mut text = Text::new(&portfolio, turn / layout::RECIPES.len());
     damage(random, &mut text);
     Sample { recipe, bytes: text.lines.concat() }
 }
