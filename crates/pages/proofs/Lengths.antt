@@ -6,6 +6,7 @@ use Rattle.std.specs.List.{flat_map, AllByRecursion}
 use Rattle.std.proofs.lemmas.Fmt.{length-decimal-le, length_signed_le}
 use Rattle.std.proofs.ByRecursion.{All-weaker, All-map}
 use Rattle.std.proofs.lemmas.List.{length-append, length-map}
+use Rattle.rules.specs.Investees.{financing_of}
 use Rattle.rules.specs.Tables.{Tables, Lawful}
 use Rattle.sources.specs.Limits.{most_kilograms}
 use Rattle.plain.specs.declared.answers.InvesteeAccount.{InvesteeAccount}
@@ -143,7 +144,7 @@ module _ (t : Tables) (lawful : Lawful t) (p : PlainBook) (kept : KeptByEveryRun
   account x range small = record {
     id = small;
     kilograms = omega (arith, total-within (apportionment t p.positions emissions x) (once_per_branch p kept x), range.kilograms_within_limit);
-    reason = lawful.reasons_in_range x.profile.kind x.profile.size x.profile.days (exposure_to x p.positions) (closing_to x p.positions);
+    reason = lawful.reasons_in_range (financing_of x.profile (exposure_to x p.positions) (closing_to x p.positions));
     grade = range.grade_to;
   }
 
