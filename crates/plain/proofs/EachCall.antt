@@ -16,19 +16,20 @@ use Rattle.sources.specs.declared.reading.Reading.{Reading}
 use Rattle.plain.specs.declared.answers.Answer.{Answer}
 use Rattle.plain.specs.declared.answers.Answer.TheVariants.{Declined}
 use Rattle.plain.specs.Changes.{opened, restated, reduced_by, read_into, added, with_position, amended, changed}
-use Rattle.plain.specs.EachCall.{ids, branch_and_id, balance_in, OtherInvesteesAsBefore, Enters, HasReading, HasReduction, ReadsInto, Posts, Amends, ChangesWhatItNames, EachCallChangesWhatItNames}
+use Rattle.plain.specs.EachCall.{ids, branch_and_id, balance_in, OtherInvesteesAsBefore, Enters, HasReading, HasReduction, ReadsInto, Posts, Amends, ChangesWhatItNames, OneCall, EachCallChangesWhatItNames}
 use Rattle.plain.specs.Kept.{PositionInRange, KeptByEveryRun}
 use Rattle.plain.specs.Lists.{first_of, change_first}
 use Rattle.plain.specs.PlainBook.{PlainInvestee, PlainPosition, PlainBook, with_investees, id_of, has_id, investee_of, is_open, is_of, position_of, new_position, balance_of, with_balance, posted_in}
 use Rattle.plain.specs.Readings.{of_investee, gives}
 use Rattle.plain.specs.Refused.{declined, below_zero}
-use Rattle.plain.specs.Runs.{unless, after, answer}
-use Rattle.plain.specs.Steps.{Meaning, Step, enter, restate, reduce, post, amend, ask_part, ask_total, ask_sheet, ask_book_total}
+use Rattle.plain.specs.Runs.{unless, after, answer, ReachedByARun}
+use Rattle.plain.specs.Steps.{Meaning, Step, enter, restate, reduce, post, amend, ask_part, ask_total, ask_sheet, ask_book_total, WithinSourceLimits}
 use Rattle.plain.proofs.Accepted.{EntryInRange, if_open-none, if_read-none, opened-none, posted-none, amended-none}
 use Rattle.plain.proofs.Kept.{same-profile}
 use Rattle.plain.proofs.Bonds.{none-anywhere}
 use Rattle.plain.proofs.Lists.{is_find, first-all, found-changed}
 use Rattle.plain.proofs.Positions.{all-with-position, new-in-range}
+use Rattle.plain.proofs.Runs.{reached-after}
 
 -- ---- looking up, after one change
 
@@ -277,5 +278,17 @@ where-declined t p c f e = by (declined t p c) refl
     by None none = absurd (no-refusal-given t p c f (sym (ap (λ o. unless o (gives t p c) Declined) none) ∙ e))
     by (Some g) some = ap (λ o. unless o (changed p c) (λ f. p)) some
 
+-- a call with the book and the answer that the definitions give
+pub one-call : (t : Tables) (p : PlainBook) (c : Step) (a : Answer) (q : PlainBook) → WithinSourceLimits c → KeptByEveryRun p → a ≡ answer t p c → q ≡ after t p c → OneCall t p c a q
+one-call t p c a q within kept told e = record {
+  changes = λ accepted. subst (ChangesWhatItNames c p) (sym e) (where-accepted t p c kept (λ f same. accepted f (told ∙ same)));
+  stays = λ f same. e ∙ where-declined t p c f (sym told ∙ same);
+  reached = λ reached. subst (ReachedByARun t) (sym e) (reached-after t p c within reached);
+}
+
 pub each-call-changes : EachCallChangesWhatItNames
-each-call-changes = record { where_accepted = where-accepted; where_declined = where-declined }
+each-call-changes = record {
+  where_accepted = where-accepted;
+  where_declined = where-declined;
+  as_one_call = λ t p c within kept. one-call t p c (answer t p c) (after t p c) within kept refl refl;
+}

@@ -12,7 +12,7 @@ use Rattle.rules.specs.declared.kinds.Kind.{Kind}
 use Rattle.rules.specs.declared.kinds.Kind.TheVariants.{Project, PropertyDevelopment, PropertyPurchase, Vehicle, GeneralLoan, Bond}
 use Rattle.plain.specs.Answered.{Answered}
 use Rattle.plain.specs.Branches.{Branch, branches}
-use Rattle.plain.specs.EveryRun.{measured, GroupAddsUp, KeepsEveryKilogram, TellsWhy, ReachedByARun, HoldsAt, HoldsWhole, AtEachPoint, HoldsThroughout, EveryRunKeepsEveryKilogram}
+use Rattle.plain.specs.EveryRun.{measured, GroupAddsUp, KeepsEveryKilogram, TellsWhy, HoldsAt, HoldsWhole, AtEachPoint, HoldsThroughout, EveryRunKeepsEveryKilogram}
 use Rattle.plain.specs.declared.answers.Answer.TheVariants.{Declined, Part, Total, Sheet}
 use Rattle.plain.specs.declared.answers.InvesteeTotal.{InvesteeTotal}
 use Rattle.plain.specs.declared.answers.Kilograms.{Kilograms}
@@ -24,7 +24,7 @@ use Rattle.plain.specs.Parts.{part, total, sheet, book_total, OncePerBranch, Ord
 use Rattle.plain.specs.PlainBook.{PlainInvestee, PlainPosition, PlainBook, empty, id_of, investee_of, is_open}
 use Rattle.plain.specs.Readings.{both, of_investee, part_of, total_of, sheet_of, positions_on_all, covers, hundredths, project_kind, is_project, subtotal_of, book_total_of}
 use Rattle.plain.specs.Refused.{if_open, branch_out_of_range}
-use Rattle.plain.specs.Runs.{unless, after, answer, run}
+use Rattle.plain.specs.Runs.{unless, after, answer, run, ReachedByARun}
 use Rattle.plain.specs.Steps.{Step, ask_part, ask_total, ask_sheet, WithinSourceLimits}
 use Rattle.plain.proofs.Bonds.{bonds-at-first, bonds-by-a-call}
 use Rattle.plain.proofs.Kept.{kept-at-first, kept-by-a-call}
@@ -34,7 +34,7 @@ use Rattle.plain.proofs.Kilograms.{AnsweredAsDefined, book-near, kilograms-kept}
 use Rattle.plain.proofs.Lists.{all_both, found-by-key}
 use Rattle.plain.proofs.Parts.{part-uncounted}
 use Rattle.plain.proofs.Positions.{Differ}
-use Rattle.plain.proofs.Runs.{run-append}
+use Rattle.plain.proofs.Runs.{reached-more}
 use Rattle.plain.proofs.Sums.{sum-all, sum-map, sum-split, sum-zero, sum-branches}
 use Rattle.plain.proofs.UnderRule.{above_zero, ruled-at-first, ruled-by-a-call}
 
@@ -298,9 +298,6 @@ holds-whole : (t : Tables) → Lawful t → (p : PlainBook) → ReachedByARun t 
 holds-whole t lawful p reached =
     let bonds = bonds-of-reached t p reached in
     record { reached = reached; of_bonds = bonds.1; under_rule = (rule-of-reached t lawful p reached).1; as_of_any = holds-at t lawful p bonds.0 }
-
-reached-more : (t : Tables) (p : PlainBook) (calls : List Step) → AllByRecursion WithinSourceLimits calls → ReachedByARun t p → ReachedByARun t (run t p calls)
-reached-more t p calls within (before, limits, led) = (before ++ calls, All-append WithinSourceLimits before calls limits within, run-append t empty before calls ∙ ap (λ q. run t q calls) led)
 
 from-the-start : (t : Tables) → Lawful t → (calls : List Step) → AllByRecursion WithinSourceLimits calls → AtEachPoint HoldsWhole t empty calls
 from-the-start t lawful calls within k = holds-whole t lawful (run t empty (take k calls)) (take k calls, All-take WithinSourceLimits k calls within, refl)

@@ -11,7 +11,7 @@ use Rattle.plain.specs.declared.answers.Answer.TheVariants.{Declined, Part, Tota
 use Rattle.plain.specs.declared.answers.InvesteeTotal.{InvesteeTotal}
 use Rattle.plain.specs.Answered.{Answered}
 use Rattle.plain.specs.Branches.{Branch, branches}
-use Rattle.plain.specs.EveryRun.{KeepsEveryKilogram, ReachedByARun}
+use Rattle.plain.specs.EveryRun.{KeepsEveryKilogram}
 use Rattle.plain.specs.Exposures.{emissions}
 use Rattle.plain.specs.Kilograms.{PartsMakeTheTotal}
 use Rattle.plain.specs.Lists.{first_of, change_first}
@@ -19,7 +19,7 @@ use Rattle.plain.specs.Parts.{Apportionment, exposures, exposure_at, exposure_be
 use Rattle.plain.specs.PlainBook.{PlainInvestee, PlainBook, investee_of}
 use Rattle.plain.specs.Rounding.{rounded, PartNearShare}
 use Rattle.plain.specs.ShutOut.{thirds, unequal, four_months, lent_to, HasToPart, Way, all_to_the_first, nothing_to_anybody, rounded_by_itself, capped_by_itself, over_months_posted, Loses, GainsOrLoses, DeclinesEverything, thirds_of_999, OpenedWith1000, SimplerAnswersShutOut}
-use Rattle.plain.specs.Runs.{answer}
+use Rattle.plain.specs.Runs.{answer, ReachedByARun}
 use Rattle.plain.specs.Steps.{Step, enter, post, ask_part, ask_total, ask_book_total}
 use Rattle.plain.specs.Sums.{sum_over, down_from}
 use Rattle.plain.specs.Worked.{accounts, company, reads, posts, kilograms, totalled}

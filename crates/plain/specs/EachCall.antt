@@ -7,11 +7,12 @@ use Rattle.rules.specs.Investees.{SameNumbers}
 use Rattle.rules.specs.Tables.{Tables}
 use Rattle.rules.specs.declared.investees.InvesteeFields.{InvesteeFields}
 use Rattle.sources.specs.declared.reading.Reading.{Reading}
+use Rattle.plain.specs.declared.answers.Answer.{Answer}
 use Rattle.plain.specs.declared.answers.Answer.TheVariants.{Declined}
 use Rattle.plain.specs.Kept.{KeptByEveryRun}
 use Rattle.plain.specs.PlainBook.{PlainInvestee, PlainPosition, PlainBook, id_of, investee_of, position_of, balance_of}
-use Rattle.plain.specs.Runs.{after, answer}
-use Rattle.plain.specs.Steps.{Meaning, Step, enter, restate, reduce, post, amend, ask_part, ask_total, ask_sheet, ask_book_total}
+use Rattle.plain.specs.Runs.{after, answer, ReachedByARun}
+use Rattle.plain.specs.Steps.{Meaning, Step, enter, restate, reduce, post, amend, ask_part, ask_total, ask_sheet, ask_book_total, WithinSourceLimits}
 
 -- ---- what can be looked up, beside the investee of an id
 
@@ -108,8 +109,19 @@ ChangesWhatItNames (ask_total id) p q = q ≡ p
 ChangesWhatItNames (ask_sheet b) p q = q ≡ p
 ChangesWhatItNames ask_book_total p q = q ≡ p
 
+-- One call on a book under the tables t: it has led from p to q, and was answered by a.
+pub record OneCall (t : Tables) (p : PlainBook) (c : Step) (a : Answer) (q : PlainBook) : Type 0 where
+  -- with no refusal for an answer, it has changed what it names and nothing else
+  pub changes : ((f : Fault) → a ≢ Declined f) → ChangesWhatItNames c p q
+  -- and with a refusal, nothing
+  pub stays : (f : Fault) → a ≡ Declined f → q ≡ p
+  -- a run has come to the book after the call, if one had come to the book before it
+  pub reached : ReachedByARun t p → ReachedByARun t q
+
 -- A call that is answered by no refusal changes what it names, in every book that a run can come to, and one that is answered
 -- by a refusal changes nothing.
 pub record EachCallChangesWhatItNames : Type 0 where
   pub where_accepted : (t : Tables) (p : PlainBook) (c : Step) → KeptByEveryRun p → ((f : Fault) → answer t p c ≢ Declined f) → ChangesWhatItNames c p (after t p c)
   pub where_declined : (t : Tables) (p : PlainBook) (c : Step) (f : Fault) → answer t p c ≡ Declined f → after t p c ≡ p
+  -- so that both hold of one call, with the book and the answer that the definitions give
+  pub as_one_call : (t : Tables) (p : PlainBook) (c : Step) → WithinSourceLimits c → KeptByEveryRun p → OneCall t p c (answer t p c) (after t p c)

@@ -15,7 +15,7 @@ use Rattle.plain.specs.Kilograms.{NoKilogramGainedOrLost}
 use Rattle.plain.specs.Parts.{Orderly, counted_in, exact_sum}
 use Rattle.plain.specs.PlainBook.{PlainInvestee, PlainBook, empty, id_of}
 use Rattle.plain.specs.Rounding.{TotalNearExactSum}
-use Rattle.plain.specs.Runs.{answer, run}
+use Rattle.plain.specs.Runs.{answer, run, ReachedByARun}
 use Rattle.plain.specs.Steps.{Step, WithinSourceLimits}
 use Rattle.plain.specs.Sums.{sum_over}
 
@@ -52,10 +52,6 @@ pub record TellsWhy (t : Tables) (p : PlainBook) (ask : Step → Answer) (answer
   pub no_total_with_a_reason : (answers.total_of (id_of x)).reason ≢ 0 → (m : Measure) → measured m (answers.total_of (id_of x)).kilograms ≡ pos 0
 
 -- ---- what holds of a book
-
--- some run from the empty book has come to p
-abbrev pub ReachedByARun : Tables → PlainBook → Type 0
-ReachedByARun t p = (calls : List Step) × AllByRecursion WithinSourceLimits calls × (run t empty calls ≡ p)
 
 -- what holds of a plain book that has what every run keeps, under the tables t
 pub record HoldsAt (t : Tables) (p : PlainBook) : Type 0 where

@@ -10,12 +10,12 @@ use Rattle.plain.specs.declared.answers.Answer.TheVariants.{Declined}
 use Rattle.plain.specs.Answered.{Answered}
 use Rattle.plain.specs.Branches.{Branch}
 use Rattle.plain.specs.EachCall.{Enters}
-use Rattle.plain.specs.EveryRun.{KeepsEveryKilogram, ReachedByARun}
+use Rattle.plain.specs.EveryRun.{KeepsEveryKilogram}
 use Rattle.plain.specs.Exposures.{emissions, apportionments}
 use Rattle.plain.specs.Parts.{Lent, at_least, Apportionment, exposures, exposure_at, base_of, base}
 use Rattle.plain.specs.PlainBook.{PlainInvestee, PlainBook, empty, investee_of}
 use Rattle.plain.specs.Rounding.{rounded}
-use Rattle.plain.specs.Runs.{answer, run}
+use Rattle.plain.specs.Runs.{answer, run, ReachedByARun}
 use Rattle.plain.specs.Steps.{Step, post, ask_part}
 use Rattle.plain.specs.Worked.{accounts, company, reads, lent}
 
