@@ -24,7 +24,7 @@ use Rattle.book.specs.declared.rows.InvesteeRow.{InvesteeRow}
 use Rattle.book.specs.Openings.{emissions_in, based_on, taken_as, taken_by}
 use Rattle.positions.specs.declared.Positions.{Positions}
 use Rattle.book.specs.Rows.{plain_investee, plain_investees, plain_rows}
-use Rattle.book.proofs.Outcomes.{after-accepted}
+use Rattle.plain.proofs.Runs.{after-accepted}
 
 -- ---- emissions
 

@@ -21,7 +21,7 @@ use Rattle.positions.specs.Entries.{balance_in, can_enter}
 use Rattle.positions.specs.Years.{in_year}
 use Rattle.book.specs.Entries.{entry_on, entry_for, EntryFor, counted, failing, post_fault, amend_fault}
 use Rattle.book.proofs.Entries.{lent-amended, lent-posted}
-use Rattle.book.proofs.Outcomes.{after-accepted}
+use Rattle.plain.proofs.Runs.{after-accepted}
 
 -- ---- the tests that they share
 

@@ -1,6 +1,7 @@
 // A new book.
 ghost use Rattle.std.specs.Prelude.{◌≡◌};
 ghost use Rattle.plain.specs.PlainBook.{empty};
+ghost use Rattle.plain.specs.Runs.{ReachedByARun};
 ghost use Rattle.book.specs.View.{plain};
 
 use crate::book::Book;
@@ -13,6 +14,7 @@ impl<'r, R: Rule> Book<'r, R> {
     pub fn new(rule: &'r R) -> Book<'r, R>
         ensures empty { plain result ≡ empty }
         ensures rule { result.rule.now ≡ rule.now }
+        ensures reached { ReachedByARun (R.tables rule.now) (plain result) }
     {
         Book {
             rule,

@@ -1,6 +1,7 @@
 // Opening investees.
 ghost use Rattle.std.specs.Prelude.{◌≡◌, length, nat_le};
 ghost use Rattle.plain.specs.Limits.{most_investees};
+ghost use Rattle.plain.specs.EachCall.{OneCall};
 ghost use Rattle.plain.specs.Runs.{after, answer};
 ghost use Rattle.plain.specs.Steps.{enter};
 ghost use Rattle.book.specs.Openings.{emissions_in, taken_by};
@@ -55,6 +56,7 @@ impl<'r, R: Rule> Book<'r, R> {
         ensures book { plain self.new ≡ after (R.tables self.old.rule.now) (plain self.old) (enter fields (S.meaning source.now)) }
         ensures rule { self.new.rule ≡ self.old.rule }
         ensures told { told done result ≡ answer (R.tables self.old.rule.now) (plain self.old) (enter fields (S.meaning source.now)) }
+        ensures one_call { OneCall (R.tables self.old.rule.now) (plain self.old) (enter fields (S.meaning source.now)) (told done result) (plain self.new) }
     {
         let profile = self.taken(fields)?;
         let reading = emissions(source)?;

@@ -1,6 +1,7 @@
 // Posting and amending balances.
 ghost use Rattle.std.specs.Prelude.{◌≡◌, ◌+◌, ◌^◌, ◌≤◌, not, ◌&&◌, ◌==◌};
 ghost use Rattle.rules.specs.Months.{months};
+ghost use Rattle.plain.specs.EachCall.{OneCall};
 ghost use Rattle.plain.specs.Exposures.{is_bond, denominator_from};
 ghost use Rattle.plain.specs.Refused.{passes};
 ghost use Rattle.plain.specs.Runs.{after, answer};
@@ -139,6 +140,7 @@ impl<'r, R: Rule> Book<'r, R> {
         ensures book { plain self.new ≡ after (R.tables self.old.rule.now) (plain self.old) (post branch id month balance) }
         ensures rule { self.new.rule ≡ self.old.rule }
         ensures told { told done result ≡ answer (R.tables self.old.rule.now) (plain self.old) (post branch id month balance) }
+        ensures one_call { OneCall (R.tables self.old.rule.now) (plain self.old) (post branch id month balance) (told done result) (plain self.new) }
     {
         let entry = Entry {
             branch,
@@ -159,6 +161,7 @@ impl<'r, R: Rule> Book<'r, R> {
         ensures book { plain self.new ≡ after (R.tables self.old.rule.now) (plain self.old) (amend branch id month balance) }
         ensures rule { self.new.rule ≡ self.old.rule }
         ensures told { told done result ≡ answer (R.tables self.old.rule.now) (plain self.old) (amend branch id month balance) }
+        ensures one_call { OneCall (R.tables self.old.rule.now) (plain self.old) (amend branch id month balance) (told done result) (plain self.new) }
     {
         let entry = Entry {
             branch,

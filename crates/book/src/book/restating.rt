@@ -1,5 +1,6 @@
 // Other readings for investees that are open, by two calls: each takes readings of its own, and writes a field of its own.
 ghost use Rattle.std.specs.Prelude.{◌≡◌};
+ghost use Rattle.plain.specs.EachCall.{OneCall};
 ghost use Rattle.plain.specs.Runs.{after, answer};
 ghost use Rattle.plain.specs.Steps.{restate, reduce};
 ghost use Rattle.plain.specs.Told.{told, done};
@@ -17,6 +18,7 @@ impl<'r, R: Rule> Book<'r, R> {
         ensures book { plain self.new ≡ after (R.tables self.old.rule.now) (plain self.old) (restate id (S.meaning source.now)) }
         ensures rule { self.new.rule ≡ self.old.rule }
         ensures told { told done result ≡ answer (R.tables self.old.rule.now) (plain self.old) (restate id (S.meaning source.now)) }
+        ensures one_call { OneCall (R.tables self.old.rule.now) (plain self.old) (restate id (S.meaning source.now)) (told done result) (plain self.new) }
     {
         let at = self.place(id)?;
         let reading = emissions(source)?;
@@ -32,6 +34,7 @@ impl<'r, R: Rule> Book<'r, R> {
         ensures book { plain self.new ≡ after (R.tables self.old.rule.now) (plain self.old) (reduce id (S.meaning source.now)) }
         ensures rule { self.new.rule ≡ self.old.rule }
         ensures told { told done result ≡ answer (R.tables self.old.rule.now) (plain self.old) (reduce id (S.meaning source.now)) }
+        ensures one_call { OneCall (R.tables self.old.rule.now) (plain self.old) (reduce id (S.meaning source.now)) (told done result) (plain self.new) }
     {
         let at = self.place(id)?;
         let reading = source.read()?;

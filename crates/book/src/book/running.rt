@@ -1,5 +1,6 @@
 // Any calls, one by one or a whole run of them.
 ghost use Rattle.std.specs.Prelude.{◌≡◌, min, ◌++◌, length, take, drop};
+ghost use Rattle.plain.specs.EachCall.{OneCall};
 ghost use Rattle.plain.specs.EveryRun.{HoldsThroughout};
 ghost use Rattle.plain.specs.Runs.{after, answer, answered, run};
 ghost use Rattle.book.specs.Calls.{step_of, steps_of};
@@ -17,6 +18,7 @@ impl<'r, R: Rule> Book<'r, R> {
         ensures book { plain self.new ≡ after (R.tables self.old.rule.now) (plain self.old) (step_of S.meaning call.now) }
         ensures rule { self.new.rule ≡ self.old.rule }
         ensures told { result ≡ answer (R.tables self.old.rule.now) (plain self.old) (step_of S.meaning call.now) }
+        ensures one_call { OneCall (R.tables self.old.rule.now) (plain self.old) (step_of S.meaning call.now) result (plain self.new) }
     {
         match call {
             Call::Open { fields, source } => Answer::from(self.open(*fields, source)),

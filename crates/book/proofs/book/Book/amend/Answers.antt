@@ -1,11 +1,12 @@
 use Rattle.std.proofs.Common.{◌≡◌, refl, sym, ◌∙◌}
 use Rattle.plain.specs.Runs.{after}
 use Rattle.plain.specs.Steps.{amend}
+use Rattle.plain.proofs.Runs.{answer-accepted}
 use Rattle.positions.specs.View.{positions_in}
 use Rattle.book.specs.Rows.{plain_investee, plain_rows}
 use Rattle.book.specs.View.{plain}
 use Rattle.book.proofs.Books.{kept-after}
-use Rattle.book.proofs.Outcomes.{answer-accepted, failed}
+use Rattle.book.proofs.Outcomes.{one_call-of, failed}
 use Rattle.book.proofs.Posting.{entry-for, amend-not-entered, amend-entered, refused, allowed, book-amended}
 use Rattle.book.proofs.book.Book.amend.Given as given
 use Rattle.book.proofs.book.Book.amend.Goals as goal
@@ -16,8 +17,8 @@ returns-in_err-row g c =
     let t = g.R.Rule.tables c.args.self.now.rule.now in
     let p = plain c.args.self.now in
     let f = c.in_err-row.field-0.0 in
-    let d = failed t p (amend c.args.branch c.args.id c.args.month c.args.balance) f (amend-not-entered p c.args.branch c.args.id c.args.month c.args.balance t f c.in_err-row.ensures) _ c.from_residual.ensures.1 in
-    record { book = d.0; rule = refl {a = c.args.self.now.rule}; told = d.1 }
+    let d = failed t p (amend c.args.branch c.args.id c.args.month c.args.balance) f (amend-not-entered p c.args.branch c.args.id c.args.month c.args.balance t f c.in_err-row.ensures) tt c.args.self.now.kept _ c.from_residual.ensures.1 in
+    record { book = d.book; rule = refl {a = c.args.self.now.rule}; told = d.says; one_call = d.one_call }
 
 pub may_amend-requires : goal.may_amend-requires
 may_amend-requires g c = (entry-for (plain c.args.self.now) c.args.branch c.args.id c.args.month c.args.balance (plain_investee c.in_ok-row.row) c.in_ok-row.ensures).0
@@ -27,8 +28,8 @@ returns-in_err-may_amend g c =
     let t = g.R.Rule.tables c.args.self.now.rule.now in
     let p = plain c.args.self.now in
     let f = c.in_err-may_amend.field-0.0 in
-    let d = failed t p (amend c.args.branch c.args.id c.args.month c.args.balance) f (amend-entered p c.args.branch c.args.id c.args.month c.args.balance t (plain_investee c.in_ok-row.row) c.in_ok-row.ensures ∙ refused _ f c.in_err-may_amend.ensures) _ c.from_residual-in_err-may_amend.ensures.1 in
-    record { book = d.0; rule = refl {a = c.args.self.now.rule}; told = d.1 }
+    let d = failed t p (amend c.args.branch c.args.id c.args.month c.args.balance) f (amend-entered p c.args.branch c.args.id c.args.month c.args.balance t (plain_investee c.in_ok-row.row) c.in_ok-row.ensures ∙ refused _ f c.in_err-may_amend.ensures) tt c.args.self.now.kept _ c.from_residual-in_err-may_amend.ensures.1 in
+    record { book = d.book; rule = refl {a = c.args.self.now.rule}; told = d.says; one_call = d.one_call }
 
 -- the book is that after the call
 is-after : (g : given.Over) (c : After-replace g) → plain_rows c.args.self.now.investees.items c.replace.new.self ≡ after (g.R.Rule.tables c.args.self.now.rule.now) (plain c.args.self.now) (amend c.args.branch c.args.id c.args.month c.args.balance)
@@ -45,9 +46,7 @@ pub returns : goal.returns
 returns g c =
     let t = g.R.Rule.tables c.args.self.now.rule.now in
     let p = plain c.args.self.now in
-    let x = plain_investee c.in_ok-row.row in
-    record {
-      book = is-after g (goal.at.returns g c).After-replace;
-      rule = refl {a = c.args.self.now.rule};
-      told = sym (answer-accepted t p (amend c.args.branch c.args.id c.args.month c.args.balance) (amend-entered p c.args.branch c.args.id c.args.month c.args.balance t x c.in_ok-row.ensures ∙ allowed _ c.in_ok-may_amend.ensures));
-    }
+    let call = amend c.args.branch c.args.id c.args.month c.args.balance in
+    let book = is-after g (goal.at.returns g c).After-replace in
+    let told = sym (answer-accepted t p call (amend-entered p c.args.branch c.args.id c.args.month c.args.balance t (plain_investee c.in_ok-row.row) c.in_ok-row.ensures ∙ allowed _ c.in_ok-may_amend.ensures)) in
+    record { book = book; rule = refl {a = c.args.self.now.rule}; told = told; one_call = one_call-of t p call _ _ tt c.args.self.now.kept told book }

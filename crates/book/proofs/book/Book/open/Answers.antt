@@ -2,10 +2,11 @@ use Rattle.std.proofs.Common.{◌≡◌, sym, refl, arith}
 use Rattle.std.proofs.lemmas.List.{length-map}
 use Rattle.plain.specs.Runs.{after}
 use Rattle.plain.specs.Steps.{enter}
+use Rattle.plain.proofs.Runs.{answer-accepted}
 use Rattle.book.specs.Rows.{plain_investee, plain_rows}
 use Rattle.book.specs.View.{plain}
 use Rattle.book.proofs.Books.{kept-after}
-use Rattle.book.proofs.Outcomes.{answer-accepted, failed}
+use Rattle.book.proofs.Outcomes.{one_call-of, failed}
 use Rattle.book.proofs.Openings.{Entered, entered, not_taken, not-read, opened_rows}
 use Rattle.book.proofs.book.Book.open.Given as given
 use Rattle.book.proofs.book.Book.open.Goals as goal
@@ -35,13 +36,12 @@ invariant_of-self g c =
 
 pub returns : goal.returns
 returns g c =
-    let book = c.args.self.now in
-    let a = accepted g (goal.at.returns g c).After-opened in
-    record {
-      book = is-after g (goal.at.returns g c).After-push;
-      rule = refl {a = c.args.self.now.rule};
-      told = sym (answer-accepted (g.R.Rule.tables book.rule.now) (plain book) (enter c.args.fields (g.S.Source.meaning c.args.source.now)) a.accepted);
-    }
+    let t = g.R.Rule.tables c.args.self.now.rule.now in
+    let p = plain c.args.self.now in
+    let call = enter c.args.fields (g.S.Source.meaning c.args.source.now) in
+    let book = is-after g (goal.at.returns g c).After-push in
+    let told = sym (answer-accepted t p call (accepted g (goal.at.returns g c).After-opened).accepted) in
+    record { book = book; rule = refl {a = c.args.self.now.rule}; told = told; one_call = one_call-of t p call _ _ (g.S.Source.within c.args.source.now) c.args.self.now.kept told book }
 
 pub returns-in_err-profile : goal.returns-in_err-profile
 returns-in_err-profile g c =
@@ -50,8 +50,8 @@ returns-in_err-profile g c =
     let call = enter c.args.fields (g.S.Source.meaning c.args.source.now) in
     let f = c.in_err-profile.field-0.0 in
     let d = not_taken t p c.args.fields (g.S.Source.meaning c.args.source.now) f c.in_err-profile.ensures in
-    let told = failed t p call f d _ c.from_residual.ensures.1 in
-    record { book = told.0; rule = refl {a = c.args.self.now.rule}; told = told.1 }
+    let no = failed t p call f d (g.S.Source.within c.args.source.now) c.args.self.now.kept _ c.from_residual.ensures.1 in
+    record { book = no.book; rule = refl {a = c.args.self.now.rule}; told = no.says; one_call = no.one_call }
 
 pub returns-in_err-reading : goal.returns-in_err-reading
 returns-in_err-reading g c =
@@ -60,5 +60,5 @@ returns-in_err-reading g c =
     let call = enter c.args.fields (g.S.Source.meaning c.args.source.now) in
     let f = c.in_err-reading.field-0.0 in
     let d = not-read t p c.args.fields (g.S.Source.meaning c.args.source.now) c.in_ok-profile.profile f c.in_ok-profile.ensures c.in_err-reading.ensures in
-    let told = failed t p call f d _ c.from_residual-in_err-reading.ensures.1 in
-    record { book = told.0; rule = refl {a = c.args.self.now.rule}; told = told.1 }
+    let no = failed t p call f d (g.S.Source.within c.args.source.now) c.args.self.now.kept _ c.from_residual-in_err-reading.ensures.1 in
+    record { book = no.book; rule = refl {a = c.args.self.now.rule}; told = no.says; one_call = no.one_call }

@@ -4,10 +4,11 @@ use Rattle.plain.specs.PlainBook.{with_investees}
 use Rattle.plain.specs.Refused.{if_read, below_zero, declined}
 use Rattle.plain.specs.Runs.{after}
 use Rattle.plain.specs.Steps.{restate}
+use Rattle.plain.proofs.Runs.{after-accepted, answer-accepted}
 use Rattle.book.specs.Rows.{plain_rows}
 use Rattle.book.specs.View.{plain}
 use Rattle.book.proofs.Books.{kept-after}
-use Rattle.book.proofs.Outcomes.{after-accepted, answer-accepted, failed}
+use Rattle.book.proofs.Outcomes.{one_call-of, failed}
 use Rattle.book.proofs.Openings.{emissions-err, emissions-ok}
 use Rattle.book.proofs.Restating.{not-open, is-open, reread}
 use Rattle.book.proofs.book.Book.restate.Given as given
@@ -21,8 +22,8 @@ returns-in_err-at g c =
     let call = restate c.args.id (g.S.Source.meaning c.args.source.now) in
     let f = c.in_err-at.field-0.0 in
     let d = not-open p c.args.id f (λ x. if_read (g.S.Source.meaning c.args.source.now) below_zero) c.in_err-at.ensures in
-    let told = failed t p call f d _ c.from_residual.ensures.1 in
-    record { book = told.0; rule = refl {a = c.args.self.now.rule}; told = told.1 }
+    let no = failed t p call f d (g.S.Source.within c.args.source.now) c.args.self.now.kept _ c.from_residual.ensures.1 in
+    record { book = no.book; rule = refl {a = c.args.self.now.rule}; told = no.says; one_call = no.one_call }
 
 pub returns-in_err-reading : goal.returns-in_err-reading
 returns-in_err-reading g c =
@@ -31,8 +32,8 @@ returns-in_err-reading g c =
     let m = g.S.Source.meaning c.args.source.now in
     let f = c.in_err-reading.field-0.0 in
     let d = is-open p c.args.id c.in_ok-at.at (if_read m below_zero) c.in_ok-at.ensures ∙ emissions-err m f c.in_err-reading.ensures in
-    let told = failed t p (restate c.args.id m) f d _ c.from_residual-in_err-reading.ensures.1 in
-    record { book = told.0; rule = refl {a = c.args.self.now.rule}; told = told.1 }
+    let no = failed t p (restate c.args.id m) f d (g.S.Source.within c.args.source.now) c.args.self.now.kept _ c.from_residual-in_err-reading.ensures.1 in
+    record { book = no.book; rule = refl {a = c.args.self.now.rule}; told = no.says; one_call = no.one_call }
 
 accepted : (g : given.Over) (c : After-restated g) → declined (g.R.Rule.tables c.args.self.now.rule.now) (plain c.args.self.now) (restate c.args.id (g.S.Source.meaning c.args.source.now)) ≡ None
 accepted g c =
@@ -57,9 +58,8 @@ pub returns-in-Some : goal.returns-in-Some
 returns-in-Some g c =
     let t = g.R.Rule.tables c.args.self.now.rule.now in
     let p = plain c.args.self.now in
+    let call = restate c.args.id (g.S.Source.meaning c.args.source.now) in
     let a = (goal.at.returns-in-Some g c).After-restated in
-    record {
-      book = is-after g a;
-      rule = refl {a = c.args.self.now.rule};
-      told = sym (answer-accepted t p (restate c.args.id (g.S.Source.meaning c.args.source.now)) (accepted g a));
-    }
+    let book = is-after g a in
+    let told = sym (answer-accepted t p call (accepted g a)) in
+    record { book = book; rule = refl {a = c.args.self.now.rule}; told = told; one_call = one_call-of t p call _ _ (g.S.Source.within c.args.source.now) c.args.self.now.kept told book }
