@@ -3,7 +3,7 @@ use Rattle.std.proofs.Common.{◌≡◌, ℕ, zero, suc, ◌+◌, ◌<◌, ◌�
 use Rattle.std.proofs.lemmas.Bool.{cases_lt, lt-ltb, le-ltb, cond-true, cond-false}
 use Rattle.lines.specs.Fields.{pieces, numbers_of, first, at_field, ended, line_of}
 use Rattle.lines.specs.Numerals.{number_of}
-use Rattle.lines.specs.Places.{Begins, GoesWrong, WrongAt, NumberFields, WrongNumberLine, RefusesWhatIsWrong}
+use Rattle.lines.specs.Places.{Begins, GoesWrong, WrongAt, FieldsOfNumbers, WrongNumberLine, RefusesWrongNumberLines}
 use Rattle.lines.specs.declared.fields.LineError.{LineError}
 use Rattle.lines.specs.declared.fields.LineError.TheVariants.{TooLong, Field, Surplus}
 use Rattle.lines.proofs.Numbers.{number-from-spells}
@@ -49,6 +49,16 @@ module _ (Form : List (List ℕ) → Type 0) where
       by : (after : List (List ℕ)) → fields ≡ w.before ++ after → GoesWrong Form w.before after → ⊥
       by [] is wrong = wrong (subst Form (is ∙ append-nil w.before) form)
       by (f ∷ after) is wrong = wrong (after, subst Form (is ∙ sym (append_assoc w.before (f ∷ []) after)) form)
+
+  -- fields of which some begin a line of the form, and of which the next is missing or wrong, whatever follows it
+  pub wrong-at : (fields before after : List (List ℕ)) (i : ℕ) → fields ≡ before ++ after → length before ≡ i → Begins Form before
+      → (fields ≡ before → Form before → ⊥) → ((f : List ℕ) (us vs : List (List ℕ)) → after ≡ f ∷ us → Form (before ++ f ∷ vs) → ⊥) → WrongAt Form fields i
+  wrong-at fields before after i is count begins missing wrong =
+      record { before = before; after = after; fields_are = is; count = count; begins = begins; goes_wrong = by after refl is }
+    where
+      by : (rest : List (List ℕ)) → after ≡ rest → fields ≡ before ++ rest → GoesWrong Form before rest
+      by [] there whole = missing (whole ∙ append-nil before)
+      by (f ∷ rest) there whole = λ b. wrong f rest b.0 there (subst Form (append_assoc before (f ∷ []) b.0) b.1)
 
 -- ---- k numbers, and what follows them
 
@@ -154,57 +164,44 @@ numbers_stop (suc k) i (f ∷ fs) j h = by (numbers_stop k (suc i) fs j) (number
 
 -- ---- the fields of a line of numbers
 
-pub fields-from : (k i : ℕ) (fs : List (List ℕ)) (ns : List ℕ) → numbers_of k i fs ≡ Ok (ns, []) → NumberFields k fs
+pub fields-from : (k i : ℕ) (fs : List (List ℕ)) (ns : List ℕ) → numbers_of k i fs ≡ Ok (ns, []) → FieldsOfNumbers k fs
 fields-from k i fs ns h = let w = fields_read k i fs ns h in record { numbers = ns; count = w.count; digits = w.small; fields_are = w.spelled }
 
-pub fields-give : (k i : ℕ) (fs : List (List ℕ)) (w : NumberFields k fs) → numbers_of k i fs ≡ Ok (w.numbers, [])
+pub fields-give : (k i : ℕ) (fs : List (List ℕ)) (w : FieldsOfNumbers k fs) → numbers_of k i fs ≡ Ok (w.numbers, [])
 fields-give k i fs w = (λ t. numbers_of (sym w.count t) i (w.fields_are t)) ∙ read-printed i w.numbers w.digits
 
-wrong-field : (k : ℕ) (fs : List (List ℕ)) (j : ℕ) → numbers_of k 0 fs ≡ Err j → (j < k) × WrongAt (NumberFields k) fs j
-wrong-field k fs j h =
-    let s = numbers_stop k 0 fs j h in (
-      omega (arith, s.count, s.few),
-      record {
-        before = s.before;
-        after = s.after;
-        fields_are = s.fields_are;
-        count = omega (arith, s.count);
-        begins = (s.more, fields-from k 0 (s.before ++ s.more) s.numbers (ap (numbers_of k 0) (sym (append-nil (s.before ++ s.more))) ∙ s.completes []));
-        goes_wrong = by s s.after refl s.fields_are;
-      },
-    )
-  where
-    by : (s : Stops k 0 fs j) (after : List (List ℕ)) → s.after ≡ after → fs ≡ s.before ++ after → GoesWrong (NumberFields k) s.before after
-    by s [] e is = λ form.
-        let reads : numbers_of k 0 fs ≡ Ok (form.numbers, []) = ap (numbers_of k 0) (is ∙ append-nil s.before) ∙ fields-give k 0 s.before form in
-        let z : ◌≡◌ {A = Result (List ℕ × List (List ℕ)) ℕ} (Err j) (Ok (form.numbers, [])) = sym h ∙ reads in
-        let y : ◌≡◌ {A = ℕ} 0 1 = cc in absurd (omega arith)
-    by s (f ∷ after) e is = λ b.
-        let reads : numbers_of k 0 (s.before ++ f ∷ b.0) ≡ Ok (b.1.numbers, []) = ap (numbers_of k 0) (sym (append_assoc s.before (f ∷ []) b.0)) ∙ fields-give k 0 ((s.before ++ f ∷ []) ++ b.0) b.1 in
-        let z : ◌≡◌ {A = Result (List ℕ × List (List ℕ)) ℕ} (Err j) (Ok (b.1.numbers, [])) = sym (s.again f after b.0 e) ∙ reads in
-        let y : ◌≡◌ {A = ℕ} 0 1 = cc in absurd (omega arith)
+-- k numbers are read to the end of the fields in one way
+one-reading : (k : ℕ) (fs : List (List ℕ)) (r : Result (List ℕ × List (List ℕ)) ℕ) → numbers_of k 0 fs ≡ r → (w : FieldsOfNumbers k fs) → r ≡ Ok (w.numbers, [])
+one-reading k fs r is w = sym is ∙ fields-give k 0 fs w
 
-surplus-field : (k : ℕ) (fs : List (List ℕ)) (ns : List ℕ) (f : List ℕ) (gs : List (List ℕ)) → numbers_of k 0 fs ≡ Ok (ns, f ∷ gs) → WrongAt (NumberFields k) fs k
+err-not-ok : {X : Type 0} (j : ℕ) (x : X) → ◌≡◌ {A = Result X ℕ} (Err j) (Ok x) → ⊥
+err-not-ok j x h = let z : ◌≡◌ {A = ℕ} 0 1 = cc in omega (arith, z)
+
+wrong-field : (k : ℕ) (fs : List (List ℕ)) (j : ℕ) → numbers_of k 0 fs ≡ Err j → (j < k) × WrongAt (FieldsOfNumbers k) fs j
+wrong-field k fs j h =
+    let s = numbers_stop k 0 fs j h in
+    let begins : FieldsOfNumbers k (s.before ++ s.more) = fields-from k 0 (s.before ++ s.more) s.numbers (ap (numbers_of k 0) (sym (append-nil (s.before ++ s.more))) ∙ s.completes []) in (
+      omega (arith, s.count, s.few),
+      wrong-at (FieldsOfNumbers k) fs s.before s.after j s.fields_are (omega (arith, s.count)) (s.more, begins)
+          (λ is form. err-not-ok j _ (one-reading k s.before (Err j) (ap (numbers_of k 0) (sym is) ∙ h) form))
+          (λ f us vs there form. err-not-ok j _ (one-reading k (s.before ++ f ∷ vs) (Err j) (s.again f us vs there) form)),
+    )
+
+surplus-field : (k : ℕ) (fs : List (List ℕ)) (ns : List ℕ) (f : List ℕ) (gs : List (List ℕ)) → numbers_of k 0 fs ≡ Ok (ns, f ∷ gs) → WrongAt (FieldsOfNumbers k) fs k
 surplus-field k fs ns f gs h =
     let p = numbers-pass k 0 fs ns (f ∷ gs) h in
-    record {
-      before = p.front;
-      after = f ∷ gs;
-      fields_are = p.fields_are;
-      count = p.count;
-      begins = ([], fields-from k 0 (p.front ++ []) ns (p.again []));
-      goes_wrong = λ b.
-          let reads : numbers_of k 0 (p.front ++ f ∷ b.0) ≡ Ok (b.1.numbers, []) = ap (numbers_of k 0) (sym (append_assoc p.front (f ∷ []) b.0)) ∙ fields-give k 0 ((p.front ++ f ∷ []) ++ b.0) b.1 in
-          let z : ◌≡◌ {A = Result (List ℕ × List (List ℕ)) ℕ} (Ok (ns, f ∷ b.0)) (Ok (b.1.numbers, [])) = sym (p.again (f ∷ b.0)) ∙ reads in
-          let pair : ◌≡◌ {A = List ℕ × List (List ℕ)} (ns, f ∷ b.0) (b.1.numbers, []) = cc in
-          absurd (omega (arith, ap (λ x. length x.1) pair));
-    }
+    wrong-at (FieldsOfNumbers k) fs p.front (f ∷ gs) k p.fields_are p.count ([], fields-from k 0 (p.front ++ []) ns (p.again []))
+    (λ is form. over f gs (ns, f ∷ gs) refl (one-reading k fs (Ok (ns, f ∷ gs)) h (subst (FieldsOfNumbers k) (sym is) form)))
+    (λ g us vs there form. over g vs (ns, g ∷ vs) refl (one-reading k (p.front ++ g ∷ vs) (Ok (ns, g ∷ vs)) (p.again (g ∷ vs)) form))
+  where
+    over : (g : List ℕ) (vs : List (List ℕ)) (x : List ℕ × List (List ℕ)) {ms : List ℕ} → x.1 ≡ g ∷ vs → ◌≡◌ {A = Result (List ℕ × List (List ℕ)) ℕ} (Ok x) (Ok (ms, [])) → ⊥
+    over g vs x {ms} more is = let pair : ◌≡◌ {A = List ℕ × List (List ℕ)} x (ms, []) = cc in omega (arith, ap length more, ap (λ y. length y.1) pair)
 
 -- ---- the line
 
 -- what the reading of a line shows of it
 abbrev Told : ℕ → List ℕ → Result (List ℕ) LineError → Type 0
-Told k line (Ok ns) = (length line ≤ 511) × NumberFields k (pieces 32 line)
+Told k line (Ok ns) = (length line ≤ 511) × FieldsOfNumbers k (pieces 32 line)
 Told k line (Err e) = WrongNumberLine k line e
 
 line-told : (k : ℕ) (line : List ℕ) → Told k line (line_of k line)
@@ -225,23 +222,23 @@ one-way k line TooLong TooLong a b = refl
 one-way k line TooLong (Field j) a b = absurd (omega (arith, a, b.0))
 one-way k line TooLong Surplus a b = absurd (omega (arith, a, b.0))
 one-way k line (Field i) TooLong a b = absurd (omega (arith, a.0, b))
-one-way k line (Field i) (Field j) a b = ap Field (one-place (NumberFields k) (pieces 32 line) i j a.2 b.2)
-one-way k line (Field i) Surplus a b = absurd (omega (arith, a.1, one-place (NumberFields k) (pieces 32 line) i k a.2 b.1))
+one-way k line (Field i) (Field j) a b = ap Field (one-place (FieldsOfNumbers k) (pieces 32 line) i j a.2 b.2)
+one-way k line (Field i) Surplus a b = absurd (omega (arith, a.1, one-place (FieldsOfNumbers k) (pieces 32 line) i k a.2 b.1))
 one-way k line Surplus TooLong a b = absurd (omega (arith, a.0, b))
-one-way k line Surplus (Field j) a b = absurd (omega (arith, b.1, one-place (NumberFields k) (pieces 32 line) j k b.2 a.1))
+one-way k line Surplus (Field j) a b = absurd (omega (arith, b.1, one-place (FieldsOfNumbers k) (pieces 32 line) j k b.2 a.1))
 one-way k line Surplus Surplus a b = refl
 
 -- and a line of k numbers in none
-no-way : (k : ℕ) (line : List ℕ) (e : LineError) → length line ≤ 511 → NumberFields k (pieces 32 line) → WrongNumberLine k line e → ⊥
+no-way : (k : ℕ) (line : List ℕ) (e : LineError) → length line ≤ 511 → FieldsOfNumbers k (pieces 32 line) → WrongNumberLine k line e → ⊥
 no-way k line TooLong fits form w = omega (arith, fits, w)
-no-way k line (Field i) fits form w = no-place (NumberFields k) (pieces 32 line) i form w.2
-no-way k line Surplus fits form w = no-place (NumberFields k) (pieces 32 line) k form w.1
+no-way k line (Field i) fits form w = no-place (FieldsOfNumbers k) (pieces 32 line) i form w.2
+no-way k line Surplus fits form w = no-place (FieldsOfNumbers k) (pieces 32 line) k form w.1
 
 the-way : (k : ℕ) (line : List ℕ) (r : Result (List ℕ) LineError) (e : LineError) → Told k line r → WrongNumberLine k line e → r ≡ Err e
 the-way k line (Ok ns) e told w = absurd (no-way k line e told.0 told.1 w)
 the-way k line (Err d) e told w = ap Err (one-way k line d e told w)
 
-pub refuses : (k : ℕ) (line : List ℕ) (r : Result (List ℕ) LineError) → r ≡ line_of k line → RefusesWhatIsWrong k line r
+pub refuses : (k : ℕ) (line : List ℕ) (r : Result (List ℕ) LineError) → r ≡ line_of k line → RefusesWrongNumberLines k line r
 refuses k line r is e =
     let told : Told k line r = subst (Told k line) (sym is) (line-told k line) in
     (λ err. subst (Told k line) err told, λ w. the-way k line r e told w)

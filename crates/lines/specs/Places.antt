@@ -1,22 +1,23 @@
--- Where a line goes wrong: at the first field with which it begins no line of its form any more.
---   form      which fields a line has; how long it is in bytes is left out
---   before    the fields in front of that place
+-- Where a line is wrong: at the first field with which it begins no line of its form.
+--   form     which fields make up a line; how many bytes they take is left out
+--   before   the fields in front of a place
+--   after    the field at that place, and those behind it; none where the field is missing
 use Rattle.std.specs.Prelude.{◌≡◌, ℕ, ◌^◌, ◌<◌, ◌≤◌, List, [], ◌∷◌, ◌++◌, map, length, decimal, Err, Result}
 use Rattle.std.specs.List.{AllByRecursion}
 use Rattle.lines.specs.Fields.{pieces}
 use Rattle.lines.specs.declared.fields.LineError.{LineError}
 use Rattle.lines.specs.declared.fields.LineError.TheVariants.{TooLong, Field, Surplus}
 
--- with some more fields, or with none, they are a line's
+-- some line of the form begins with these fields, or has no others
 abbrev pub Begins : (List (List ℕ) → Type 0) → List (List ℕ) → Type 0
 Begins Form fields = (more : List (List ℕ)) × Form (fields ++ more)
 
--- With the field that is next, fields no longer begin a line. Where none is next, they are not a whole line.
+-- no line of the form goes on with the field at the place; where that is missing, no line ends there
 abbrev pub GoesWrong : (List (List ℕ) → Type 0) → (before after : List (List ℕ)) → Type 0
 GoesWrong Form before [] = Form before → ⊥
 GoesWrong Form before (field ∷ after) = Begins Form (before ++ field ∷ []) → ⊥
 
--- i fields begin a line of the form, and the one after them is wrong, missing or surplus
+-- i fields begin a line of the form, and the one behind them is wrong, missing or surplus
 pub record WrongAt (Form : List (List ℕ) → Type 0) (fields : List (List ℕ)) (i : ℕ) : Type 0 where
   pub before : List (List ℕ)
   pub after : List (List ℕ)
@@ -26,18 +27,18 @@ pub record WrongAt (Form : List (List ℕ) → Type 0) (fields : List (List ℕ)
   pub goes_wrong : GoesWrong Form before after
 
 -- the fields are k numbers of at most 13 digits
-pub record NumberFields (k : ℕ) (fields : List (List ℕ)) : Type 0 where
+pub record FieldsOfNumbers (k : ℕ) (fields : List (List ℕ)) : Type 0 where
   pub numbers : List ℕ
   pub count : length numbers ≡ k
   pub digits : AllByRecursion (λ n. n < 10 ^ 13) numbers
   pub fields_are : fields ≡ map decimal numbers
 
--- Why bytes are no line of k numbers. The field after the k-th is a surplus one.
+-- why bytes are no line of k numbers: they are more than 511, or one of the k fields is wrong or missing, or there is one too many
 abbrev pub WrongNumberLine : ℕ → List ℕ → LineError → Type 0
 WrongNumberLine k line TooLong = 511 < length line
-WrongNumberLine k line (Field i) = (length line ≤ 511) × (i < k) × WrongAt (NumberFields k) (pieces 32 line) i
-WrongNumberLine k line Surplus = (length line ≤ 511) × WrongAt (NumberFields k) (pieces 32 line) k
+WrongNumberLine k line (Field i) = (length line ≤ 511) × (i < k) × WrongAt (FieldsOfNumbers k) (pieces 32 line) i
+WrongNumberLine k line Surplus = (length line ≤ 511) × WrongAt (FieldsOfNumbers k) (pieces 32 line) k
 
--- bytes are refused just where and as they are wrong
-abbrev pub RefusesWhatIsWrong : ℕ → List ℕ → Result (List ℕ) LineError → Type 0
-RefusesWhatIsWrong k line r = (e : LineError) → (r ≡ Err e → WrongNumberLine k line e) × (WrongNumberLine k line e → r ≡ Err e)
+-- a line is refused just where it is wrong, and for that reason
+abbrev pub RefusesWrongNumberLines : ℕ → List ℕ → Result (List ℕ) LineError → Type 0
+RefusesWrongNumberLines k line r = (e : LineError) → (r ≡ Err e → WrongNumberLine k line e) × (WrongNumberLine k line e → r ≡ Err e)

@@ -1,7 +1,7 @@
 // A line of numbers.
 ghost use Rattle.std.specs.Prelude.{◌≡◌, ◌<◌};
 ghost use Rattle.lines.specs.Fields.{line_of};
-ghost use Rattle.lines.specs.Places.{RefusesWhatIsWrong};
+ghost use Rattle.lines.specs.Places.{RefusesWrongNumberLines};
 ghost use Rattle.lines.specs.Render.{AcceptsWhatIsPrinted};
 
 use crate::fields::{LineError, numbers};
@@ -14,7 +14,7 @@ pub const MOST_BYTES: usize = 511;
 pub fn number_line<const K: usize>(line: &[u8]) -> Result<[u64; K], LineError>
     ensures value { result ≡ line_of K line.now }
     ensures accepts { 0 < K → AcceptsWhatIsPrinted K line.now result }
-    ensures refuses { RefusesWhatIsWrong K line.now result }
+    ensures refuses { RefusesWrongNumberLines K line.now result }
 {
     if line.len() > MOST_BYTES {
         return Err(LineError::TooLong);
