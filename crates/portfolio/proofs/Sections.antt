@@ -1,5 +1,5 @@
 -- Sections of lines: what is read is what is written.
-use Rattle.std.proofs.Common.{◌≡◌, ℕ, zero, suc, ◌≤◌, cond, eqb, leb, List, [], ◌∷◌, ◌++◌, map, length, get_or, Some, None, Ok, Err, Option, Result, sym, refl, ap, ◌∙◌, subst, ⊎_elim, arith}
+use Rattle.std.proofs.Common.{◌≡◌, ℕ, zero, suc, ◌≤◌, cond, eqb, leb, List, [], ◌∷◌, ◌++◌, map, length, Some, None, Ok, Err, Option, Result, sym, refl, ap, ◌∙◌, subst, ⊎_elim, arith}
 use Rattle.std.specs.List.{AllByRecursion}
 use Rattle.std.proofs.lemmas.Bool.{cases_Bool, eqb-true, leb-true, le-leb, and_parts, and_from, cond-true, cond-false}
 use Rattle.entries.specs.Entries.{PlainEntry}
@@ -9,12 +9,13 @@ use Rattle.entries.specs.declared.guide.Guide.TheVariants.{National, Pudong}
 use Rattle.entries.specs.declared.stop.Stop.{Stop}
 use Rattle.lines.specs.Render.{printed, LineOfNumbers}
 use Rattle.portfolio_lines.specs.Lines.{number_line, investee_of, key_of, balance_of}
+use Rattle.portfolio_lines.specs.Numbers.{number_at, numbers_of_first_line, investees_place, posts_place, guide_place}
 use Rattle.portfolio_lines.specs.Text.{ThirteenDigits, investee_line, key_numbers}
 use Rattle.portfolio_lines.specs.declared.misread.Misread.{Misread}
 use Rattle.portfolio_lines.specs.declared.posts.Key.{Key}
 use Rattle.portfolio_lines.proofs.Investees.{investee-line, investee-reads}
 use Rattle.portfolio_lines.proofs.Texts.{row_line, row_reads, key-line, key_reads, balance-line, balance-reads, at_all}
-use Rattle.portfolio.specs.Layout.{PlainHead, beyond_limits, next_line, on_line, in_front, section_of, within_limits, head_by, head_from, head_of}
+use Rattle.portfolio.specs.Layout.{most_investees, most_posts, PlainHead, beyond_limits, next_line, on_line, in_front, section_of, within_limits, head_by, head_from, head_of}
 use Rattle.portfolio.specs.Text.{InvesteeDigits}
 
 pub next-is : (ps : List (List ℕ)) (r : List ℕ × List (List ℕ)) → next_line ps ≡ Some r → ps ≡ r.0 ∷ r.1
@@ -123,38 +124,38 @@ abbrev pub head_numbers_of : PlainHead → List ℕ
 head_numbers_of h = h.investees ∷ h.posts ∷ guide_number h.guide ∷ []
 
 pub record HeadLine (h : PlainHead) (line : List ℕ) : Type 0 where
-  pub numbers : LineOfNumbers 3 (head_numbers_of h) line
-  pub investees : h.investees ≤ 200
-  pub posts : h.posts ≤ 1000
+  pub numbers : LineOfNumbers numbers_of_first_line (head_numbers_of h) line
+  pub investees : h.investees ≤ most_investees
+  pub posts : h.posts ≤ most_posts
 
 pub head-line : (line : List ℕ) (h : PlainHead) → head_of line ≡ Ok h → HeadLine h line
-head-line line h ok = from (number_line 3 line) refl ok
+head-line line h ok = from (number_line numbers_of_first_line line) refl ok
   where
-    limits : (n m : ℕ) (g : Guide) → ◌≡◌ {A = Result PlainHead Stop} (cond (within_limits n m) (Ok (record { investees = n; posts = m; guide = g })) (Err beyond_limits)) (Ok h) → (n ≤ 200) × (m ≤ 1000) × (record { investees = n; posts = m; guide = g } ≡ h)
+    limits : (n m : ℕ) (g : Guide) → ◌≡◌ {A = Result PlainHead Stop} (cond (within_limits n m) (Ok (record { investees = n; posts = m; guide = g })) (Err beyond_limits)) (Ok h) → (n ≤ most_investees) × (m ≤ most_posts) × (record { investees = n; posts = m; guide = g } ≡ h)
     limits n m g e =
         ⊎_elim
         (λ t.
-        let (a, b) = and_parts (leb n 200) (leb m 1000) t in
+        let (a, b) = and_parts (leb n most_investees) (leb m most_posts) t in
         let e₁ : ◌≡◌ {A = Result PlainHead Stop} (Ok (record { investees = n; posts = m; guide = g })) (Ok h) = sym (cond-true (within_limits n m) _ _ t) ∙ e in
         let same : record { investees = n; posts = m; guide = g } ≡ h = cc in
-        (leb-true n 200 a, leb-true m 1000 b, same))
+        (leb-true n most_investees a, leb-true m most_posts b, same))
         (λ f. let e₁ : ◌≡◌ {A = Result PlainHead Stop} (Err beyond_limits) (Ok h) = sym (cond-false (within_limits n m) _ _ f) ∙ e in let z : ◌≡◌ {A = ℕ} 0 1 = cc in absurd (omega arith))
         (cases_Bool (within_limits n m))
 
-    by : (ns : List ℕ) → LineOfNumbers 3 ns line → (o : Option Guide) → guide_numbered (get_or ns 2 0) ≡ o → head_by (get_or ns 0 0) (get_or ns 1 0) o ≡ Ok h → HeadLine h line
+    by : (ns : List ℕ) → LineOfNumbers numbers_of_first_line ns line → (o : Option Guide) → guide_numbered (number_at guide_place ns) ≡ o → head_by (number_at investees_place ns) (number_at posts_place ns) o ≡ Ok h → HeadLine h line
     by ns l None e ok = let z : ◌≡◌ {A = ℕ} 0 1 = cc in absurd (omega arith)
     by ns l (Some g) e ok =
-        let (a, b, same) = limits (get_or ns 0 0) (get_or ns 1 0) g ok in
-        let number : guide_number g ≡ get_or ns 2 0 = guide-is (get_or ns 2 0) g e in
-        let spelled : ns ≡ get_or ns 0 0 ∷ get_or ns 1 0 ∷ guide_number g ∷ [] = sym (at_all 3 ns l.count) ∙ ap (λ n. get_or ns 0 0 ∷ get_or ns 1 0 ∷ n ∷ []) (sym number) in
-        subst (λ h. HeadLine h line) same (record { numbers = subst (λ ms. LineOfNumbers 3 ms line) spelled l; investees = a; posts = b })
+        let (a, b, same) = limits (number_at investees_place ns) (number_at posts_place ns) g ok in
+        let number : guide_number g ≡ number_at guide_place ns = guide-is (number_at guide_place ns) g e in
+        let spelled : ns ≡ number_at investees_place ns ∷ number_at posts_place ns ∷ guide_number g ∷ [] = sym (at_all numbers_of_first_line ns l.count) ∙ ap (λ n. number_at investees_place ns ∷ number_at posts_place ns ∷ n ∷ []) (sym number) in
+        subst (λ h. HeadLine h line) same (record { numbers = subst (λ ms. LineOfNumbers numbers_of_first_line ms line) spelled l; investees = a; posts = b })
 
-    from : (r : Result (List ℕ) Misread) → number_line 3 line ≡ r → head_from r ≡ Ok h → HeadLine h line
+    from : (r : Result (List ℕ) Misread) → number_line numbers_of_first_line line ≡ r → head_from r ≡ Ok h → HeadLine h line
     from (Err p) e ok = let z : ◌≡◌ {A = ℕ} 0 1 = cc in absurd (omega arith)
-    from (Ok ns) e ok = by ns (row_line 3 line ns e) (guide_numbered (get_or ns 2 0)) refl ok
+    from (Ok ns) e ok = by ns (row_line numbers_of_first_line line ns e) (guide_numbered (number_at guide_place ns)) refl ok
 
 pub head-reads : (line : List ℕ) (h : PlainHead) → HeadLine h line → head_of line ≡ Ok h
 head-reads line h l =
-    ap head_from (row_reads 3 line (head_numbers_of h) (omega arith) l.numbers)
+    ap head_from (row_reads numbers_of_first_line line (head_numbers_of h) (omega arith) l.numbers)
     ∙ ap (head_by h.investees h.posts) (guide-back h.guide)
-    ∙ cond-true (within_limits h.investees h.posts) _ _ (and_from (leb h.investees 200) (leb h.posts 1000) (le-leb h.investees 200 l.investees) (le-leb h.posts 1000 l.posts))
+    ∙ cond-true (within_limits h.investees h.posts) _ _ (and_from (leb h.investees most_investees) (leb h.posts most_posts) (le-leb h.investees most_investees l.investees) (le-leb h.posts most_posts l.posts))

@@ -2,7 +2,7 @@
 --   piece    what stands between two line feeds
 --   line     a piece that a line feed ends
 --   stop     the number of a line, from 1, and the fault found there
-use Rattle.std.specs.Prelude.{ℕ, zero, suc, ◌+◌, Bool, cond, ◌&&◌, List, [], ◌∷◌, length, Some, None, Ok, Err, Option, Result, nat_le, nat_lt, slice_index}
+use Rattle.std.specs.Prelude.{ℕ, zero, suc, ◌+◌, Bool, cond, ◌&&◌, List, [], ◌∷◌, length, Some, None, Ok, Err, Option, Result, nat_le, nat_lt}
 use Rattle.std.specs.Borrow.{Bor}
 use Rattle.entries.specs.Entries.{PlainPortfolio}
 use Rattle.entries.specs.Guides.{guide_numbered}
@@ -16,6 +16,7 @@ use Rattle.lines.specs.Fields.{pieces}
 use Rattle.portfolio_lines.specs.Counted.{and_then}
 use Rattle.portfolio_lines.specs.Lines.{number_line, investee_of, key_of, balance_of}
 use Rattle.portfolio_lines.specs.Misreads.{place_of}
+use Rattle.portfolio_lines.specs.Numbers.{number_at, numbers_of_first_line, investees_place, posts_place, guide_place}
 use Rattle.portfolio_lines.specs.declared.misread.Misread.{Misread}
 use Rattle.portfolio_lines.specs.declared.posts.Key.{Key}
 
@@ -90,11 +91,11 @@ head_by investees posts (Some g) = cond (within_limits investees posts) (Ok (rec
 
 abbrev pub head_from : Result (List ℕ) Misread → Result PlainHead Stop
 head_from (Err e) = Err (not_laid_out 1 (place_of e))
-head_from (Ok ns) = head_by (slice_index ns 0) (slice_index ns 1) (guide_numbered (slice_index ns 2))
+head_from (Ok ns) = head_by (number_at investees_place ns) (number_at posts_place ns) (guide_numbered (number_at guide_place ns))
 
 -- line 1: the number of investees, the number of posts, the guide; its layout, then its limits
 abbrev pub head_of : List ℕ → Result PlainHead Stop
-head_of line = head_from (number_line 3 line)
+head_of line = head_from (number_line numbers_of_first_line line)
 
 abbrev pub posting : Key → ℕ → PostEntry
 posting key balance = record { branch = key.branch; id = key.id; month = key.month; balance = balance }

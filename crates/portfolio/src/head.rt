@@ -15,6 +15,9 @@ pub const MOST_POSTS: u64 = 1_000;
 // The number of the first line.
 pub const HEAD_LINE: usize = 1;
 
+// How many numbers it has.
+pub const HEAD_NUMBERS: usize = 3;
+
 // How many lines of each kind follow, and the guide.
 #[derive(Clone, Copy)]
 pub struct Head {
@@ -38,7 +41,7 @@ impl Head {
         ensures { seen_head result ≡ head_of line.now }
     {
         let not_laid_out = |misread| wrong_field(HEAD_LINE, misread);
-        let [investees, posts, guide] = read_row::<3>(line).map_err(not_laid_out)?;
+        let [investees, posts, guide] = read_row::<HEAD_NUMBERS>(line).map_err(not_laid_out)?;
         match Guide::try_from(guide) {
             Ok(guide) if within_limits(investees, posts) => Ok(Head {
                 investees: investees as usize,

@@ -2,7 +2,7 @@
 ghost use Rattle.std.specs.Prelude.{◌≡◌};
 ghost use Rattle.lines.specs.Pieces.{left_in};
 ghost use Rattle.portfolio.specs.Layout.{body_of, layout_of};
-ghost use Rattle.portfolio.specs.Refused.{RefusesRightly};
+ghost use Rattle.portfolio.specs.Refused.{OneStop, RefusesRightly};
 ghost use Rattle.portfolio.specs.Seen.{plain_head, seen, Counted};
 ghost use Rattle.portfolio.specs.Text.{AcceptsTexts};
 
@@ -38,12 +38,14 @@ fn read_body<'a>(lines: Pieces<'a>, head: Head) -> Result<Portfolio<'a>, Stop>
     })
 }
 
-// The portfolio of any bytes, or where they stop being one: the whole layout, from the top.
+/// The portfolio of any bytes, or where they stop being one: the whole layout, from the top. A stop has the number of its
+/// line, and refusal 30 (with the place of the field), 31 or 32.
 pub fn read<'a>(bytes: &'a [u8]) -> Result<Portfolio<'a>, Stop>
     ensures value { seen result ≡ layout_of bytes.now }
     ensures counts { Counted result }
     ensures refused { RefusesRightly bytes.now (seen result) }
     ensures texts { AcceptsTexts bytes.now (seen result) }
+    ensures stops { OneStop bytes.now }
 {
     if bytes.len() > MOST_BYTES {
         return Err(file_beyond());

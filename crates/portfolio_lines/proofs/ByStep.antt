@@ -9,6 +9,7 @@ use Rattle.lines.proofs.Places.{numbers-pass, zeros, numbers_stop}
 use Rattle.portfolio_lines.specs.Counted.{FieldsLeft, Reading, and_then, counted, numbers_in}
 use Rattle.portfolio_lines.specs.Lines.{entry_of, entry_in}
 use Rattle.portfolio_lines.specs.Methods.{report_in, mean_in, bill_in, term_of, terms_in, in_front, method_by, method_in}
+use Rattle.portfolio_lines.specs.Numbers.{numbers_before_method}
 use Rattle.portfolio_lines.specs.declared.misread.Misread.{Misread}
 use Rattle.portfolio_lines.specs.declared.misread.Misread.TheVariants.{Field}
 use Rattle.portfolio_lines.proofs.Texts.{then_ok, then-gives}
@@ -288,5 +289,5 @@ method-step = record { passes = method-passes; stops = method-stops; some = meth
 
 pub entry-step : ByStep entry_in
 entry-step =
-    one_then (numbers_in 13) (λ ns g. and_then (method_in g) (λ s. Ok (entry_of ns s.0, s.1))) (numbers-step 13)
+    one_then (numbers_in numbers_before_method) (λ ns g. and_then (method_in g) (λ s. Ok (entry_of ns s.0, s.1))) (numbers-step numbers_before_method)
     (λ ns. one_then method_in (λ m g. Ok (entry_of ns m, g)) method-step (λ m. given (entry_of ns m)))

@@ -8,6 +8,7 @@ use Rattle.portfolio_lines.specs.declared.misread.Misread.TheVariants.{Field}
 use Rattle.portfolio_lines.specs.Counted.{FieldsLeft, Reading, and_then, fields_of, numbers_in, none_left, none_at}
 use Rattle.portfolio_lines.specs.Lines.{entry_of, entry_in, investee_of, held_in, held_line}
 use Rattle.portfolio_lines.specs.Methods.{method_in, held}
+use Rattle.portfolio_lines.specs.Numbers.{numbers_before_method}
 
 method-wrong : (ns : List ℕ) (p : Misread) (x : Reading PlainMethod) → held x ≡ Err p → held_in (and_then x (λ s. Ok (entry_of ns s.0, s.1))) ≡ Err p
 method-wrong ns p (Ok r) h = let z : ◌≡◌ {A = ℕ} 0 1 = cc in absurd (omega arith)
@@ -18,8 +19,8 @@ entry-stops : (k : ℕ) (f g : FieldsLeft) (ns : List ℕ) (p : Misread) → num
 entry-stops k f g ns p head method =
     ap (λ x. held_in (and_then x (λ r. and_then (method_in r.1) (λ s. Ok (entry_of r.0 s.0, s.1))))) head ∙ method-wrong ns p (method_in g) method
 
-pub entry-wrong : (f g : FieldsLeft) (ns : List ℕ) (p : Misread) → numbers_in 13 f ≡ Ok (ns, g) → held (method_in g) ≡ Err p → held_in (entry_in f) ≡ Err p
-entry-wrong = entry-stops 13
+pub entry-wrong : (f g : FieldsLeft) (ns : List ℕ) (p : Misread) → numbers_in numbers_before_method f ≡ Ok (ns, g) → held (method_in g) ≡ Err p → held_in (entry_in f) ≡ Err p
+entry-wrong = entry-stops numbers_before_method
 
 held_none : (e : PlainEntry) (place : ℕ) (fs : List (List ℕ)) → held_line (none_at e place fs) ≡ none_at (held_entry e) place fs
 held_none e place [] = refl

@@ -9,9 +9,10 @@ use Rattle.lines.specs.Fields.{pieces}
 use Rattle.lines.specs.Render.{join}
 use Rattle.lines.proofs.Printed.{Free, decimals-free, join-pieces}
 use Rattle.portfolio_lines.specs.declared.misread.Misread.TheVariants.{Field}
-use Rattle.portfolio_lines.specs.Counted.{FieldsLeft, Reading, and_then, fields_of, numbers_in, letter_at, letter_in}
+use Rattle.portfolio_lines.specs.Counted.{FieldsLeft, Reading, and_then, numbers_in, letter_at, letter_in}
 use Rattle.portfolio_lines.specs.Lines.{entry_of, entry_in, investee_of}
 use Rattle.portfolio_lines.specs.Methods.{report_in, mean_in, bill_in, term_of, terms_in, in_front, method_by, method_in}
+use Rattle.portfolio_lines.specs.Numbers.{numbers_before_method}
 use Rattle.portfolio_lines.specs.Text.{ThirteenDigits, head_numbers, letter_of, term_numbers, method_numbers, investee_fields, investee_line, IsInvesteeLine}
 use Rattle.portfolio_lines.proofs.Spelled.{Written, numbers-read, numbers-gives, all_append, join_free}
 use Rattle.portfolio_lines.proofs.Texts.{then_ok, then-gives, whole-ok, whole-gives, at, at_all, split}
@@ -117,28 +118,36 @@ numbers-method p (bill ts) fs gs w =
     let (q, terms) = terms-gives (p + 1 + 1) ts rest gs (record { small = w.small.1; spelled = refl }) in
     (q, then-gives (λ r. and_then (terms_in (get_or r.0 0 0) r.1) (λ s. Ok (bill s.0, s.1))) _ count ∙ then-gives (λ s. Ok (bill s.0, s.1)) _ terms)
 
--- ---- the line
+-- ---- the fields of the line, read to the end
 
-pub entry_read : (f : FieldsLeft) (x : PlainEntry × FieldsLeft) → entry_in f ≡ Ok x
-    → (f.left ≡ map decimal (head_numbers x.0) ++ (letter_of x.0.method ∷ []) ∷ map decimal (method_numbers x.0.method) ++ x.1.left) × (ThirteenDigits (head_numbers x.0) × ThirteenDigits (method_numbers x.0.method))
-entry_read f x h =
-    let (y, reads, rest) = then_ok (numbers_in 13 f) (λ r. and_then (method_in r.1) (λ s. Ok (entry_of r.0 s.0, s.1))) x h in
-    let (z, method, made) = then_ok (method_in y.1) (λ s. Ok (entry_of y.0 s.0, s.1)) x rest in
-    let pair : ◌≡◌ {A = PlainEntry × FieldsLeft} (entry_of y.0 z.0, z.1) x = cc in
-    let (count, w) = numbers-read 13 f y reads in
+pub entry-done : (fs : List (List ℕ)) (e : PlainEntry) (g : FieldsLeft) → entry_in (record { place = 1; left = fs }) ≡ Ok (e, g) → g.left ≡ [] → (fs ≡ investee_fields e) × (ThirteenDigits (head_numbers e) × ThirteenDigits (method_numbers e.method))
+entry-done fs e g h none =
+    let (y, reads, rest) = then_ok (numbers_in numbers_before_method (record { place = 1; left = fs })) (λ r. and_then (method_in r.1) (λ s. Ok (entry_of r.0 s.0, s.1))) (e, g) h in
+    let (z, method, made) = then_ok (method_in y.1) (λ s. Ok (entry_of y.0 s.0, s.1)) (e, g) rest in
+    let pair : ◌≡◌ {A = PlainEntry × FieldsLeft} (entry_of y.0 z.0, z.1) (e, g) = cc in
+    let (count, w) = numbers-read numbers_before_method (record { place = 1; left = fs }) y reads in
     let (tail, small) = method-read y.1 z method in
-    let here : Written (at 13 0 y.0) f.left y.1.left = subst (λ ns. Written ns f.left y.1.left) (sym (at_all 13 y.0 count)) w in
-    subst (λ x. (f.left ≡ map decimal (head_numbers x.0) ++ (letter_of x.0.method ∷ []) ∷ map decimal (method_numbers x.0.method) ++ x.1.left) × (ThirteenDigits (head_numbers x.0) × ThirteenDigits (method_numbers x.0.method))) pair
-    (here.spelled ∙ ap (λ l. map decimal (at 13 0 y.0) ++ l) tail, (here.small, small))
+    let here : Written (at numbers_before_method 0 y.0) fs y.1.left = subst (λ ns. Written ns fs y.1.left) (sym (at_all numbers_before_method y.0 count)) w in
+    let numbers : List (List ℕ) = map decimal (method_numbers z.0) in
+    let last : numbers ++ z.1.left ≡ numbers = ap (λ l. numbers ++ l) (ap (λ x. x.1.left) pair ∙ none) ∙ append-nil numbers in
+    subst (λ e. (fs ≡ investee_fields e) × (ThirteenDigits (head_numbers e) × ThirteenDigits (method_numbers e.method))) (ap (λ x. x.0) pair)
+    (here.spelled ∙ ap (λ l. map decimal (at numbers_before_method 0 y.0) ++ l) (tail ∙ ap (λ l. (letter_of z.0 ∷ []) ∷ l) last), (here.small, small))
+
+pub entry-gives : (fs : List (List ℕ)) (e : PlainEntry) → fs ≡ investee_fields e → ThirteenDigits (head_numbers e) × ThirteenDigits (method_numbers e.method) → (q : ℕ) × (entry_in (record { place = 1; left = fs }) ≡ Ok (e, record { place = q; left = [] }))
+entry-gives fs e is digits =
+    let numbers : List (List ℕ) = map decimal (method_numbers e.method) in
+    let head = numbers-gives numbers_before_method 1 fs (head_numbers e) ((letter_of e.method ∷ []) ∷ numbers) refl (record { small = digits.0; spelled = is }) in
+    let (q, method) = numbers-method (1 + numbers_before_method) e.method numbers [] (record { small = digits.1; spelled = sym (append-nil numbers) }) in
+    (q, then-gives (λ r. and_then (method_in r.1) (λ s. Ok (entry_of r.0 s.0, s.1))) _ head ∙ then-gives (λ s. Ok (entry_of (head_numbers e) s.0, s.1)) _ method)
+
+-- ---- the line
 
 pub investee-line : (line : List ℕ) (e : PlainEntry) → investee_of line ≡ Ok e → IsInvesteeLine e line
 investee-line line e h =
     let (short, rest) = whole-ok entry_in line e h in
     let (g, reads, none) = rest in
-    let (fields, small) = entry_read (fields_of line) (e, g) reads in
-    let numbers : List (List ℕ) = map decimal (method_numbers e.method) in
-    let whole : pieces 32 line ≡ investee_fields e = fields ∙ ap (λ l. map decimal (head_numbers e) ++ (letter_of e.method ∷ []) ∷ l) (ap (λ l. numbers ++ l) none ∙ append-nil numbers) in
-    record { line_is = sym (join-pieces 32 line) ∙ ap (join 32) whole; digits = small; short = short }
+    let (fields, small) = entry-done (pieces 32 line) e g reads none in
+    record { line_is = sym (join-pieces 32 line) ∙ ap (join 32) fields; digits = small; short = short }
 
 letter-free : (sep : ℕ) (m : PlainMethod) → sep < 48 → Free sep (letter_of m ∷ [])
 letter-free sep (report a b) below = (λ e. omega arith, tt)
@@ -155,10 +164,6 @@ investee-free e small = join_free 10 32 (investee_fields e) (λ e. omega arith) 
 
 pub investee-reads : (line : List ℕ) (e : PlainEntry) → IsInvesteeLine e line → investee_of line ≡ Ok e
 investee-reads line e l =
-    let numbers : List (List ℕ) = map decimal (method_numbers e.method) in
-    let tail : List (List ℕ) = (letter_of e.method ∷ []) ∷ numbers in
-    let fields : pieces 32 line ≡ map decimal (head_numbers e) ++ tail = split (decimal e.fields.id) _ line l.line_is (fields_free 32 e (omega arith) l.digits) in
-    let head = numbers-gives 13 1 (pieces 32 line) (head_numbers e) tail refl (record { small = l.digits.0; spelled = fields }) in
-    let (q, method) = numbers-method (1 + 13) e.method numbers [] (record { small = l.digits.1; spelled = sym (append-nil numbers) }) in
-    whole-gives entry_in line e q l.short
-    (then-gives (λ r. and_then (method_in r.1) (λ s. Ok (entry_of r.0 s.0, s.1))) _ head ∙ then-gives (λ s. Ok (entry_of (head_numbers e) s.0, s.1)) _ method)
+    let fields : pieces 32 line ≡ investee_fields e = split (decimal e.fields.id) _ line l.line_is (fields_free 32 e (omega arith) l.digits) in
+    let (q, reads) = entry-gives (pieces 32 line) e fields l.digits in
+    whole-gives entry_in line e q l.short reads

@@ -1,23 +1,22 @@
 -- Where a line is wrong, by its fields alone.
-use Rattle.std.proofs.Common.{◌≡◌, ℕ, zero, suc, ◌+◌, ◌≤◌, ltb, List, [], ◌∷◌, ◌++◌, map, length, Ok, Err, decimal, Result, sym, refl, ap, ◌∙◌, subst, ⊎_elim, append_assoc, append-nil, arith}
+use Rattle.std.proofs.Common.{◌≡◌, ℕ, zero, suc, ◌+◌, ◌≤◌, ltb, List, [], ◌∷◌, ◌++◌, map, length, Ok, Err, decimal, Result, sym, refl, ap, ◌∙◌, subst, ⊎_elim, append-nil, arith}
 use Rattle.std.proofs.lemmas.Bool.{cases_lt, lt-ltb, le-ltb, cond-true, cond-false}
 use Rattle.entries.specs.Entries.{PlainEntry}
 use Rattle.entries.specs.declared.investee.InvesteeEntry.{InvesteeEntry}
 use Rattle.lines.specs.Fields.{pieces}
-use Rattle.lines.specs.Places.{GoesWrong, WrongAt, NumberFields}
-use Rattle.lines.proofs.Places.{one-place, no-place}
+use Rattle.lines.specs.Places.{WrongAt, FieldsOfNumbers}
+use Rattle.lines.proofs.Places.{one-place, no-place, wrong-at}
 use Rattle.portfolio_lines.specs.Counted.{FieldsLeft, Reading, and_then, fields_of, numbers_in, none_at, none_left}
-use Rattle.portfolio_lines.specs.Lines.{whole_line, number_line, entry_of, entry_in, investee_of, key_from, key_of, balance_of, held_line}
-use Rattle.portfolio_lines.specs.Methods.{method_in}
+use Rattle.portfolio_lines.specs.Lines.{whole_line, number_line, entry_in, investee_of, key_from, key_of, balance_of, held_line}
+use Rattle.portfolio_lines.specs.Numbers.{numbers_of_key, numbers_of_balance}
 use Rattle.portfolio_lines.specs.Places.{FieldsOfInvestee, LineOf, WrongLine, RefusesWrongLines}
-use Rattle.portfolio_lines.specs.Text.{head_numbers, letter_of, method_numbers}
 use Rattle.portfolio_lines.specs.declared.misread.Misread.{Misread}
 use Rattle.portfolio_lines.specs.declared.misread.Misread.TheVariants.{TooLong, Field}
 use Rattle.portfolio_lines.specs.declared.posts.Key.{Key}
 use Rattle.portfolio_lines.proofs.ByStep.{from_place, Passed, Stopped, ByStep, numbers-step, entry-step}
-use Rattle.portfolio_lines.proofs.Investees.{entry_read, numbers-method}
+use Rattle.portfolio_lines.proofs.Investees.{entry-done, entry-gives}
 use Rattle.portfolio_lines.proofs.Spelled.{numbers-read, numbers-gives}
-use Rattle.portfolio_lines.proofs.Texts.{then-gives, written-done}
+use Rattle.portfolio_lines.proofs.Texts.{written-done}
 
 -- ---- a line is wrong in one way at most, and one of the form in none
 
@@ -60,41 +59,32 @@ pub record ReadsForm {X : Type 0} (read : FieldsLeft → Reading X) (Form : List
   pub gives : (fs : List (List ℕ)) → Form fs → (x : X) × (q : ℕ) × (read (from_place 1 fs) ≡ Ok (x, from_place q []))
 
 module _ {X : Type 0} (read : FieldsLeft → Reading X) (Form : List (List ℕ) → Type 0) (law : ReadsForm read Form) where
+  -- fields of the form are read to the end, and so neither stop a reading nor leave one over
+  not-stopped : (fs : List (List ℕ)) (e : Misread) → read (from_place 1 fs) ≡ Err e → Form fs → ⊥
+  not-stopped fs e is form =
+      let (x, q, reads) = law.gives fs form in
+      let y : ◌≡◌ {A = Reading X} (Err e) (Ok (x, from_place q [])) = sym is ∙ reads in
+      let z : ◌≡◌ {A = ℕ} 0 1 = cc in omega (arith, z)
+
+  none-over : (fs : List (List ℕ)) (x : X) (g : FieldsLeft) (f : List ℕ) (gs : List (List ℕ)) → g.left ≡ f ∷ gs → read (from_place 1 fs) ≡ Ok (x, g) → Form fs → ⊥
+  none-over fs x g f gs left is form =
+      let (y, q, reads) = law.gives fs form in
+      let z : ◌≡◌ {A = Reading X} (Ok (x, g)) (Ok (y, from_place q [])) = sym is ∙ reads in
+      let pair : ◌≡◌ {A = X × FieldsLeft} (x, g) (y, from_place q []) = cc in
+      omega (arith, ap length left, ap (λ z. length z.1.left) pair)
+
   stopped : (fs : List (List ℕ)) (e : Misread) → read (from_place 1 fs) ≡ Err e → (s : Stopped read 1 fs e) → WrongAt Form fs (length s.before)
   stopped fs e is s =
-      record {
-        before = s.before;
-        after = s.after;
-        fields_are = s.fields_are;
-        count = refl;
-        begins = (s.more, law.from (s.before ++ s.more) s.value (from_place s.last []) (ap (λ l. read (from_place 1 l)) (sym (append-nil (s.before ++ s.more))) ∙ s.completes []) refl);
-        goes_wrong = by s.after refl s.fields_are;
-      }
-    where
-      by : (after : List (List ℕ)) → s.after ≡ after → fs ≡ s.before ++ after → GoesWrong Form s.before after
-      by [] there whole = λ form.
-          let (x, q, reads) = law.gives s.before form in
-          let z : ◌≡◌ {A = Reading X} (Err e) (Ok (x, from_place q [])) = sym is ∙ ap (λ l. read (from_place 1 l)) (whole ∙ append-nil s.before) ∙ reads in
-          let y : ◌≡◌ {A = ℕ} 0 1 = cc in absurd (omega arith)
-      by (f ∷ after) there whole = λ b.
-          let (x, q, reads) = law.gives ((s.before ++ f ∷ []) ++ b.0) b.1 in
-          let z : ◌≡◌ {A = Reading X} (Err e) (Ok (x, from_place q [])) = sym (s.again f after b.0 there) ∙ ap (λ l. read (from_place 1 l)) (sym (append_assoc s.before (f ∷ []) b.0)) ∙ reads in
-          let y : ◌≡◌ {A = ℕ} 0 1 = cc in absurd (omega arith)
+      let begins : Form (s.before ++ s.more) = law.from (s.before ++ s.more) s.value (from_place s.last []) (ap (λ l. read (from_place 1 l)) (sym (append-nil (s.before ++ s.more))) ∙ s.completes []) refl in
+      wrong-at Form fs s.before s.after (length s.before) s.fields_are refl (s.more, begins)
+      (λ whole form. not-stopped fs e is (subst Form (sym whole) form))
+      (λ f us vs there form. not-stopped (s.before ++ f ∷ vs) e (s.again f us vs there) form)
 
-  surplus : (fs : List (List ℕ)) (x : X) (g : FieldsLeft) (f : List ℕ) (gs : List (List ℕ)) → g.left ≡ f ∷ gs → (s : Passed read 1 fs x g) → WrongAt Form fs (length s.front)
-  surplus fs x g f gs left s =
-      record {
-        before = s.front;
-        after = f ∷ gs;
-        fields_are = s.fields_are ∙ ap (λ l. s.front ++ l) left;
-        count = refl;
-        begins = ([], law.from (s.front ++ []) x (from_place g.place []) (s.again []) refl);
-        goes_wrong = λ b.
-            let (y, q, reads) = law.gives ((s.front ++ f ∷ []) ++ b.0) b.1 in
-            let z : ◌≡◌ {A = Reading X} (Ok (x, from_place g.place (f ∷ b.0))) (Ok (y, from_place q [])) = sym (s.again (f ∷ b.0)) ∙ ap (λ l. read (from_place 1 l)) (sym (append_assoc s.front (f ∷ []) b.0)) ∙ reads in
-            let pair : ◌≡◌ {A = X × FieldsLeft} (x, from_place g.place (f ∷ b.0)) (y, from_place q []) = cc in
-            absurd (omega (arith, ap (λ z. length z.1.left) pair));
-      }
+  surplus : (fs : List (List ℕ)) (x : X) (g : FieldsLeft) (f : List ℕ) (gs : List (List ℕ)) → g.left ≡ f ∷ gs → read (from_place 1 fs) ≡ Ok (x, g) → (s : Passed read 1 fs x g) → WrongAt Form fs (length s.front)
+  surplus fs x g f gs left is s =
+      wrong-at Form fs s.front g.left (length s.front) s.fields_are refl ([], law.from (s.front ++ []) x (from_place g.place []) (s.again []) refl)
+      (λ whole form. none-over fs x g f gs left is (subst Form (sym whole) form))
+      (λ h us vs there form. none-over (s.front ++ h ∷ vs) x (from_place g.place (h ∷ vs)) h vs refl (s.again (h ∷ vs)) form)
 
   module _ (line : List ℕ) (fits : length line ≤ 511) where
     abbrev fs : List (List ℕ)
@@ -107,7 +97,7 @@ module _ {X : Type 0} (read : FieldsLeft → Reading X) (Form : List (List ℕ) 
     ended-told x g [] left reads = record { short = fits; fields = law.from fs x g reads left }
     ended-told x g (f ∷ gs) left reads =
         let s = law.by_step.passes 1 fs x g reads in
-        at_place (Field g.place) (length s.front) g.place refl (omega (arith, s.place_is)) (surplus fs x g f gs left s)
+        at_place (Field g.place) (length s.front) g.place refl (omega (arith, s.place_is)) (surplus fs x g f gs left reads s)
 
     fields-told : (r : Reading X) → read (from_place 1 fs) ≡ r → Told Form line (and_then r (λ r. none_left r.0 r.1))
     fields-told (Ok r) is = ended-told r.0 r.1 r.1.left refl is
@@ -124,58 +114,49 @@ module _ {X : Type 0} (read : FieldsLeft → Reading X) (Form : List (List ℕ) 
 
 -- ---- numbers
 
-numbers-form : (k : ℕ) → ReadsForm (numbers_in k) (NumberFields k)
+numbers-form : (k : ℕ) → ReadsForm (numbers_in k) (FieldsOfNumbers k)
 numbers-form k = record { by_step = numbers-step k; from = from; gives = gives }
   where
-    from : (fs : List (List ℕ)) (ns : List ℕ) (g : FieldsLeft) → numbers_in k (from_place 1 fs) ≡ Ok (ns, g) → g.left ≡ [] → NumberFields k fs
+    from : (fs : List (List ℕ)) (ns : List ℕ) (g : FieldsLeft) → numbers_in k (from_place 1 fs) ≡ Ok (ns, g) → g.left ≡ [] → FieldsOfNumbers k fs
     from fs ns g reads none =
         let (count, w) = numbers-read k (from_place 1 fs) (ns, g) reads in
         record { numbers = ns; count = count; digits = w.small; fields_are = written-done ns fs g.left w none }
 
-    gives : (fs : List (List ℕ)) → NumberFields k fs → (ns : List ℕ) × (q : ℕ) × (numbers_in k (from_place 1 fs) ≡ Ok (ns, from_place q []))
+    gives : (fs : List (List ℕ)) → FieldsOfNumbers k fs → (ns : List ℕ) × (q : ℕ) × (numbers_in k (from_place 1 fs) ≡ Ok (ns, from_place q []))
     gives fs w = (w.numbers, 1 + k, numbers-gives k 1 fs w.numbers [] w.count (record { small = w.digits; spelled = w.fields_are ∙ sym (append-nil (map decimal w.numbers)) }))
 
-pub row-told : (k : ℕ) (line : List ℕ) → Told (NumberFields k) line (number_line k line)
-row-told k line = line-told (numbers_in k) (NumberFields k) (numbers-form k) line
+pub row-told : (k : ℕ) (line : List ℕ) → Told (FieldsOfNumbers k) line (number_line k line)
+row-told k line = line-told (numbers_in k) (FieldsOfNumbers k) (numbers-form k) line
 
-pub key-told : (line : List ℕ) → Told (NumberFields 3) line (key_of line)
-key-told line = told-then (NumberFields 3) line (number_line 3 line) key_from (row-told 3 line)
+pub key-told : (line : List ℕ) → Told (FieldsOfNumbers numbers_of_key) line (key_of line)
+key-told line = told-then (FieldsOfNumbers numbers_of_key) line (number_line numbers_of_key line) key_from (row-told numbers_of_key line)
 
-pub balance-told : (line : List ℕ) → Told (NumberFields 1) line (balance_of line)
-balance-told line = told-then (NumberFields 1) line (number_line 1 line) _ (row-told 1 line)
+pub balance-told : (line : List ℕ) → Told (FieldsOfNumbers numbers_of_balance) line (balance_of line)
+balance-told line = told-then (FieldsOfNumbers numbers_of_balance) line (number_line numbers_of_balance line) _ (row-told numbers_of_balance line)
 
 -- ---- an investee
 
 entry-form : ReadsForm entry_in FieldsOfInvestee
-entry-form = record { by_step = entry-step; from = from; gives = gives }
-  where
-    from : (fs : List (List ℕ)) (e : PlainEntry) (g : FieldsLeft) → entry_in (from_place 1 fs) ≡ Ok (e, g) → g.left ≡ [] → FieldsOfInvestee fs
-    from fs e g reads none =
-        let (fields, small) = entry_read (from_place 1 fs) (e, g) reads in
-        let numbers : List (List ℕ) = map decimal (method_numbers e.method) in
-        record { entry = e; digits = small; fields_are = fields ∙ ap (λ l. map decimal (head_numbers e) ++ (letter_of e.method ∷ []) ∷ l) (ap (λ l. numbers ++ l) none ∙ append-nil numbers) }
-
-    gives : (fs : List (List ℕ)) → FieldsOfInvestee fs → (e : PlainEntry) × (q : ℕ) × (entry_in (from_place 1 fs) ≡ Ok (e, from_place q []))
-    gives fs w =
-        let e = w.entry in
-        let numbers : List (List ℕ) = map decimal (method_numbers e.method) in
-        let head = numbers-gives 13 1 fs (head_numbers e) ((letter_of e.method ∷ []) ∷ numbers) refl (record { small = w.digits.0; spelled = w.fields_are }) in
-        let (q, method) = numbers-method (1 + 13) e.method numbers [] (record { small = w.digits.1; spelled = sym (append-nil numbers) }) in
-        (e, q, then-gives (λ r. and_then (method_in r.1) (λ s. Ok (entry_of r.0 s.0, s.1))) _ head ∙ then-gives (λ s. Ok (entry_of (head_numbers e) s.0, s.1)) _ method)
+entry-form =
+    record {
+      by_step = entry-step;
+      from = λ fs e g reads none. let (fields, small) = entry-done fs e g reads none in record { entry = e; digits = small; fields_are = fields };
+      gives = λ fs w. let (q, reads) = entry-gives fs w.entry w.fields_are w.digits in (w.entry, q, reads);
+    }
 
 pub investee-told : (line : List ℕ) → Told FieldsOfInvestee line (investee_of line)
 investee-told line = line-told entry_in FieldsOfInvestee entry-form line
 
 -- ---- what the functions answer
 
-pub row-refuses : (k : ℕ) (line : List ℕ) (r : Result (List ℕ) Misread) → r ≡ number_line k line → RefusesWrongLines (NumberFields k) line r
-row-refuses k line r is = refuses (NumberFields k) line r (subst (Told (NumberFields k) line) (sym is) (row-told k line))
+pub row-refuses : (k : ℕ) (line : List ℕ) (r : Result (List ℕ) Misread) → r ≡ number_line k line → RefusesWrongLines (FieldsOfNumbers k) line r
+row-refuses k line r is = refuses (FieldsOfNumbers k) line r (subst (Told (FieldsOfNumbers k) line) (sym is) (row-told k line))
 
-pub key-refuses : (line : List ℕ) (r : Result Key Misread) → r ≡ key_of line → RefusesWrongLines (NumberFields 3) line r
-key-refuses line r is = refuses (NumberFields 3) line r (subst (Told (NumberFields 3) line) (sym is) (key-told line))
+pub key-refuses : (line : List ℕ) (r : Result Key Misread) → r ≡ key_of line → RefusesWrongLines (FieldsOfNumbers numbers_of_key) line r
+key-refuses line r is = refuses (FieldsOfNumbers numbers_of_key) line r (subst (Told (FieldsOfNumbers numbers_of_key) line) (sym is) (key-told line))
 
-pub balance-refuses : (line : List ℕ) (r : Result ℕ Misread) → r ≡ balance_of line → RefusesWrongLines (NumberFields 1) line r
-balance-refuses line r is = refuses (NumberFields 1) line r (subst (Told (NumberFields 1) line) (sym is) (balance-told line))
+pub balance-refuses : (line : List ℕ) (r : Result ℕ Misread) → r ≡ balance_of line → RefusesWrongLines (FieldsOfNumbers numbers_of_balance) line r
+balance-refuses line r is = refuses (FieldsOfNumbers numbers_of_balance) line r (subst (Told (FieldsOfNumbers numbers_of_balance) line) (sym is) (balance-told line))
 
 held-told : (line : List ℕ) (r : Result PlainEntry Misread) → Told FieldsOfInvestee line r → Told FieldsOfInvestee line (held_line r)
 held-told line (Ok e) told = told

@@ -7,6 +7,7 @@ use Rattle.lines.specs.Render.{join, printed, LineOfNumbers}
 use Rattle.lines.proofs.Printed.{Free, decimals-free, join-pieces, pieces-join}
 use Rattle.portfolio_lines.specs.Counted.{FieldsLeft, Reading, and_then, fields_of, numbers_in, none_at, none_left}
 use Rattle.portfolio_lines.specs.Lines.{whole_line, number_line, key_from, key_of, balance_of}
+use Rattle.portfolio_lines.specs.Numbers.{number_at, numbers_of_key, numbers_of_balance, balance_place}
 use Rattle.portfolio_lines.specs.Text.{ThirteenDigits, key_numbers, ReadsKeys, ReadsBalances}
 use Rattle.portfolio_lines.specs.declared.misread.Misread.{Misread}
 use Rattle.portfolio_lines.specs.declared.misread.Misread.TheVariants.{TooLong}
@@ -84,25 +85,25 @@ at_all (suc n) (x ∷ xs) h = ap (λ l. x ∷ l) (at-cons n 0 x xs ∙ at_all n 
 
 -- ---- a post
 
-pub key-line : (line : List ℕ) (key : Key) → key_of line ≡ Ok key → LineOfNumbers 3 (key_numbers key) line
+pub key-line : (line : List ℕ) (key : Key) → key_of line ≡ Ok key → LineOfNumbers numbers_of_key (key_numbers key) line
 key-line line key h =
-    let (ns, reads, made) = then_ok (number_line 3 line) (λ ns. Ok (key_from ns)) key h in
-    let l = row_line 3 line ns reads in
+    let (ns, reads, made) = then_ok (number_line numbers_of_key line) (λ ns. Ok (key_from ns)) key h in
+    let l = row_line numbers_of_key line ns reads in
     let same : key_from ns ≡ key = cc in
-    subst (λ ms. LineOfNumbers 3 ms line) (sym (at_all 3 ns l.count) ∙ ap key_numbers same) l
+    subst (λ ms. LineOfNumbers numbers_of_key ms line) (sym (at_all numbers_of_key ns l.count) ∙ ap key_numbers same) l
 
-pub key_reads : (line : List ℕ) (key : Key) → LineOfNumbers 3 (key_numbers key) line → key_of line ≡ Ok key
-key_reads line key l = then-gives (λ ns. Ok (key_from ns)) (key_numbers key) (row_reads 3 line (key_numbers key) (omega arith) l)
+pub key_reads : (line : List ℕ) (key : Key) → LineOfNumbers numbers_of_key (key_numbers key) line → key_of line ≡ Ok key
+key_reads line key l = then-gives (λ ns. Ok (key_from ns)) (key_numbers key) (row_reads numbers_of_key line (key_numbers key) (omega arith) l)
 
-pub balance-line : (line : List ℕ) (balance : ℕ) → balance_of line ≡ Ok balance → LineOfNumbers 1 (balance ∷ []) line
+pub balance-line : (line : List ℕ) (balance : ℕ) → balance_of line ≡ Ok balance → LineOfNumbers numbers_of_balance (balance ∷ []) line
 balance-line line balance h =
-    let (ns, reads, made) = then_ok (number_line 1 line) (λ ns. Ok (get_or ns 0 0)) balance h in
-    let l = row_line 1 line ns reads in
-    let same : get_or ns 0 0 ≡ balance = cc in
-    subst (λ ms. LineOfNumbers 1 ms line) (sym (at_all 1 ns l.count) ∙ ap (λ b. b ∷ []) same) l
+    let (ns, reads, made) = then_ok (number_line numbers_of_balance line) (λ ns. Ok (number_at balance_place ns)) balance h in
+    let l = row_line numbers_of_balance line ns reads in
+    let same : number_at balance_place ns ≡ balance = cc in
+    subst (λ ms. LineOfNumbers numbers_of_balance ms line) (sym (at_all numbers_of_balance ns l.count) ∙ ap (λ b. b ∷ []) same) l
 
-pub balance-reads : (line : List ℕ) (balance : ℕ) → LineOfNumbers 1 (balance ∷ []) line → balance_of line ≡ Ok balance
-balance-reads line balance l = then-gives (λ ns. Ok (get_or ns 0 0)) (balance ∷ []) (row_reads 1 line (balance ∷ []) (omega arith) l)
+pub balance-reads : (line : List ℕ) (balance : ℕ) → LineOfNumbers numbers_of_balance (balance ∷ []) line → balance_of line ≡ Ok balance
+balance-reads line balance l = then-gives (λ ns. Ok (number_at balance_place ns)) (balance ∷ []) (row_reads numbers_of_balance line (balance ∷ []) (omega arith) l)
 
 pub reads_keys : (line : List ℕ) (r : Result Key Misread) → r ≡ key_of line → ReadsKeys line r
 reads_keys line r is key = (λ h. key-line line key (sym is ∙ h), λ l. is ∙ key_reads line key l)

@@ -1,14 +1,16 @@
 -- The lines of a portfolio file, each without its line feed: what it reads as, or which is its first field that is wrong,
 -- missing or surplus.
-use Rattle.std.specs.Prelude.{ℕ, cond, List, length, Ok, Err, Result, nat_lt, slice_index}
+use Rattle.std.specs.Prelude.{ℕ, cond, List, length, Ok, Err, Result, nat_lt}
 use Rattle.entries.specs.Entries.{PlainMethod, PlainEntry, held_entry}
 use Rattle.entries.specs.declared.investee.InvesteeEntry.{InvesteeEntry}
 use Rattle.entries.specs.declared.method.Method.{Method}
+use Rattle.rules.specs.declared.figures.Figures.{Figures}
 use Rattle.rules.specs.declared.investees.InvesteeFields.{InvesteeFields}
 use Rattle.sources.specs.declared.offset.OffsetFigures.{OffsetFigures}
 use Rattle.sources.specs.declared.overseas.OverseasFigures.{OverseasFigures}
 use Rattle.portfolio_lines.specs.Counted.{FieldsLeft, Reading, and_then, fields_of, numbers_in, none_left}
 use Rattle.portfolio_lines.specs.Methods.{method_in}
+use Rattle.portfolio_lines.specs.Numbers.{number_at, numbers_before_method, id_place, kind_place, sector_place, size_place, days_place, investment_place, revenue_place, total_assets_place, initial_value_place, part_place, green_power_place, ccer_place, tickets_place, numbers_of_key, branch_place, investee_place, month_place, numbers_of_balance, balance_place}
 use Rattle.portfolio_lines.specs.declared.misread.Misread.{Misread}
 use Rattle.portfolio_lines.specs.declared.misread.Misread.TheVariants.{TooLong}
 use Rattle.portfolio_lines.specs.declared.posts.Key.{Key}
@@ -21,22 +23,25 @@ whole_line read line = cond (nat_lt 511 (length line)) (Err TooLong) (and_then (
 abbrev pub number_line : ℕ → List ℕ → Result (List ℕ) Misread
 number_line k line = whole_line (numbers_in k) line
 
--- ---- an investee: thirteen numbers, and the method
+-- ---- an investee: its numbers, and the method
+
+abbrev pub figures_in : List ℕ → Figures
+figures_in ns = record { investment = number_at investment_place ns; revenue = number_at revenue_place ns; total_assets = number_at total_assets_place ns; initial_value = number_at initial_value_place ns }
 
 abbrev pub fields_in : List ℕ → InvesteeFields
-fields_in ns = record { id = slice_index ns 0; kind = slice_index ns 1; sector = slice_index ns 2; size = slice_index ns 3; days = slice_index ns 4; figures = record { investment = slice_index ns 5; revenue = slice_index ns 6; total_assets = slice_index ns 7; initial_value = slice_index ns 8 } }
+fields_in ns = record { id = number_at id_place ns; kind = number_at kind_place ns; sector = number_at sector_place ns; size = number_at size_place ns; days = number_at days_place ns; figures = figures_in ns }
 
 abbrev pub overseas_in : List ℕ → OverseasFigures
-overseas_in ns = record { part = slice_index ns 9 }
+overseas_in ns = record { part = number_at part_place ns }
 
 abbrev pub offsets_in : List ℕ → OffsetFigures
-offsets_in ns = record { green_power = slice_index ns 10; ccer = slice_index ns 11; tickets = slice_index ns 12 }
+offsets_in ns = record { green_power = number_at green_power_place ns; ccer = number_at ccer_place ns; tickets = number_at tickets_place ns }
 
 abbrev pub entry_of : List ℕ → PlainMethod → PlainEntry
 entry_of ns method = record { fields = fields_in ns; overseas = overseas_in ns; offsets = offsets_in ns; method = method }
 
 abbrev pub entry_in : FieldsLeft → Reading PlainEntry
-entry_in f = and_then (numbers_in 13 f) (λ r. and_then (method_in r.1) (λ s. Ok (entry_of r.0 s.0, s.1)))
+entry_in f = and_then (numbers_in numbers_before_method f) (λ r. and_then (method_in r.1) (λ s. Ok (entry_of r.0 s.0, s.1)))
 
 abbrev pub investee_of : List ℕ → Result PlainEntry Misread
 investee_of line = whole_line entry_in line
@@ -44,13 +49,13 @@ investee_of line = whole_line entry_in line
 -- ---- a post: its key (branch, investee's id, month), and its balance
 
 abbrev pub key_from : List ℕ → Key
-key_from ns = record { branch = slice_index ns 0; id = slice_index ns 1; month = slice_index ns 2 }
+key_from ns = record { branch = number_at branch_place ns; id = number_at investee_place ns; month = number_at month_place ns }
 
 abbrev pub key_of : List ℕ → Result Key Misread
-key_of line = and_then (number_line 3 line) (λ ns. Ok (key_from ns))
+key_of line = and_then (number_line numbers_of_key line) (λ ns. Ok (key_from ns))
 
 abbrev pub balance_of : List ℕ → Result ℕ Misread
-balance_of line = and_then (number_line 1 line) (λ ns. Ok (slice_index ns 0))
+balance_of line = and_then (number_line numbers_of_balance line) (λ ns. Ok (number_at balance_place ns))
 
 -- ---- the same as a program holds them
 

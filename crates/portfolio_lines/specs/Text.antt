@@ -7,6 +7,7 @@ use Rattle.factors.specs.declared.Activity.{Activity}
 use Rattle.entries.specs.Entries.{PlainMethod, PlainEntry, report, bill, sector_mean}
 use Rattle.lines.specs.Render.{join, LineOfNumbers}
 use Rattle.portfolio_lines.specs.Lines.{investee_of}
+use Rattle.portfolio_lines.specs.Numbers.{numbers_of_key, numbers_of_balance}
 use Rattle.portfolio_lines.specs.declared.misread.Misread.{Misread}
 use Rattle.portfolio_lines.specs.declared.posts.Key.{Key}
 
@@ -63,7 +64,7 @@ abbrev pub ReadsInvestees : List ℕ → Type 0
 ReadsInvestees line = (e : PlainEntry) → (investee_of line ≡ Ok e → IsInvesteeLine e line) × (IsInvesteeLine e line → investee_of line ≡ Ok e)
 
 abbrev pub ReadsKeys : List ℕ → Result Key Misread → Type 0
-ReadsKeys line r = (key : Key) → (r ≡ Ok key → LineOfNumbers 3 (key_numbers key) line) × (LineOfNumbers 3 (key_numbers key) line → r ≡ Ok key)
+ReadsKeys line r = (key : Key) → (r ≡ Ok key → LineOfNumbers numbers_of_key (key_numbers key) line) × (LineOfNumbers numbers_of_key (key_numbers key) line → r ≡ Ok key)
 
 abbrev pub ReadsBalances : List ℕ → Result ℕ Misread → Type 0
-ReadsBalances line r = (balance : ℕ) → (r ≡ Ok balance → LineOfNumbers 1 (balance ∷ []) line) × (LineOfNumbers 1 (balance ∷ []) line → r ≡ Ok balance)
+ReadsBalances line r = (balance : ℕ) → (r ≡ Ok balance → LineOfNumbers numbers_of_balance (balance ∷ []) line) × (LineOfNumbers numbers_of_balance (balance ∷ []) line → r ≡ Ok balance)

@@ -17,11 +17,11 @@ use rules::investees::InvesteeFields;
 use sources::offset::{Offset, OffsetFigures};
 use sources::overseas::{OverseasCut, OverseasFigures};
 
-// How many numbers stand before the method.
-const HEAD: usize = 13;
+/// How many numbers the line of an investee has before the letter of its method.
+pub const NUMBERS_BEFORE_METHOD: usize = 13;
 
 // What the investee is, from the first of these numbers.
-fn investee_fields(head: [u64; HEAD]) -> InvesteeFields
+fn investee_fields(head: [u64; NUMBERS_BEFORE_METHOD]) -> InvesteeFields
     ensures { result ≡ fields_in head }
 {
     let [
@@ -52,7 +52,7 @@ fn investee_fields(head: [u64; HEAD]) -> InvesteeFields
 }
 
 // The entry of these numbers and a method; the last four are the layers' over the method.
-fn entry(head: [u64; HEAD], method: Method) -> InvesteeEntry
+fn entry(head: [u64; NUMBERS_BEFORE_METHOD], method: Method) -> InvesteeEntry
     ensures { result ≡ held_over head method }
 {
     let [.., part, green_power, ccer, tickets] = head;
@@ -74,12 +74,12 @@ fn entry(head: [u64; HEAD], method: Method) -> InvesteeEntry
 fn read_entry(fields: &mut Fields<'_>) -> Result<InvesteeEntry, Misread>
     ensures { held_in (entry_in (fields_left fields.old)) ≡ leaving result (fields_left fields.new) }
 {
-    let head = fields.numbers::<HEAD>()?;
+    let head = fields.numbers::<NUMBERS_BEFORE_METHOD>()?;
     let method = read_method(fields)?;
     Ok(entry(head, method))
 }
 
-// The investee of a line, which is given without its line feed.
+/// The investee of a line, which is given without its line feed.
 pub fn read_investee(line: &[u8]) -> Result<InvesteeEntry, Misread>
     ensures value { result ≡ held_line (investee_of line.now) }
     ensures lines { ReadsInvestees line.now }

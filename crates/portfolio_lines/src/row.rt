@@ -1,6 +1,6 @@
 // A line of numbers.
 ghost use Rattle.std.specs.Prelude.{◌≡◌, ◌^◌, ◌<◌};
-ghost use Rattle.lines.specs.Places.{NumberFields};
+ghost use Rattle.lines.specs.Places.{FieldsOfNumbers};
 ghost use Rattle.portfolio_lines.specs.Lines.{number_line};
 ghost use Rattle.portfolio_lines.specs.Places.{RefusesWrongLines};
 ghost use Rattle.portfolio_lines.specs.Rows.{last_place, misread_of};
@@ -26,7 +26,7 @@ fn misread(error: LineError, count: usize) -> Misread
 pub fn read_row<const K: usize>(line: &[u8]) -> Result<[u64; K], Misread>
     ensures value { result ≡ number_line K line.now }
     ensures lines { 0 < K → ReadsRows K line.now result }
-    ensures refuses { RefusesWrongLines (NumberFields K) line.now result }
+    ensures refuses { RefusesWrongLines (FieldsOfNumbers K) line.now result }
 {
     // A `match` and no `map_err`: that the place fits is known of this error, and not of each that a closure may get.
     match number_line::<K>(line) {

@@ -1,7 +1,7 @@
 use Rattle.std.proofs.Common.{Err, arith}
 use Rattle.std.proofs.lemmas.Grind.{common_steps}
 use Rattle.portfolio.proofs.Laws.{accepts}
-use Rattle.portfolio.proofs.Refusing.{refuses-rightly}
+use Rattle.portfolio.proofs.Refusing.{refuses-rightly, has-one-stop}
 use Rattle.portfolio.proofs.layout.read.Goals as goal
 
 pub returns-then-bytes-gt-MOST_BYTES-clause-refused : goal.returns-then-bytes-gt-MOST_BYTES-clause-refused
@@ -24,3 +24,15 @@ returns-clause-refused c = refuses-rightly c.args.bytes.now _ (grind (arith, com
 
 pub returns-clause-texts : goal.returns-clause-texts
 returns-clause-texts c = accepts c.args.bytes.now _ (grind (arith, common_steps))
+
+pub returns-then-bytes-gt-MOST_BYTES-clause-stops : goal.returns-then-bytes-gt-MOST_BYTES-clause-stops
+returns-then-bytes-gt-MOST_BYTES-clause-stops c = has-one-stop c.args.bytes.now
+
+pub returns-in_err-line-clause-stops : goal.returns-in_err-line-clause-stops
+returns-in_err-line-clause-stops c = has-one-stop c.args.bytes.now
+
+pub returns-in_err-head-clause-stops : goal.returns-in_err-head-clause-stops
+returns-in_err-head-clause-stops c = has-one-stop c.args.bytes.now
+
+pub returns-clause-stops : goal.returns-clause-stops
+returns-clause-stops c = has-one-stop c.args.bytes.now
