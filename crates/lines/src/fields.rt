@@ -32,7 +32,8 @@ impl From<WrongField> for LineError {
 
 // The next field as a number; nothing if it is wrong or missing.
 fn next_number(fields: &mut Pieces<'_>) -> Option<u64>
-    ensures { (k i : ℕ) → numbers_of (suc k) i (left_in fields.old) ≡ first i result (numbers_of k (suc i) (left_in fields.new)) }
+    ensures read { (k i : ℕ) → numbers_of (suc k) i (left_in fields.old) ≡ first i result (numbers_of k (suc i) (left_in fields.new)) }
+    ensures separator { fields.new.separator ≡ fields.old.separator }
 {
     number(fields.next()?)
 }
@@ -40,6 +41,7 @@ fn next_number(fields: &mut Pieces<'_>) -> Option<u64>
 // The next K fields as numbers, or the first of them that is wrong or missing; then none is taken.
 pub fn numbers<const K: usize>(fields: &mut Pieces<'_>) -> Result<[u64; K], WrongField>
     ensures read { numbers_of K 0 (left_in fields.old) ≡ leaving_fields result (left_in fields.new) }
+    ensures separator { fields.new.separator ≡ fields.old.separator }
     ensures none_taken { OnErr result (fields.new ≡ fields.old) }
 {
     let mut ahead = *fields;
