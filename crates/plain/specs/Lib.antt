@@ -23,5 +23,6 @@ pub mod Worked
 pub mod WorkedRefusals
 pub mod Due
 pub mod WorkedYear
+pub mod WorkedKinds
 pub mod Told
 pub mod Layout

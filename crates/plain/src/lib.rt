@@ -8,6 +8,7 @@ ghost use Rattle.plain.specs.Kept.{KeptByEachCall};
 ghost use Rattle.plain.specs.Kilograms.{TotalIsRoundedOnce};
 ghost use Rattle.plain.specs.ShutOut.{SimplerAnswersShutOut};
 ghost use Rattle.plain.specs.Worked.{WorkedCases};
+ghost use Rattle.plain.specs.WorkedKinds.{WorkedKinds};
 ghost use Rattle.plain.specs.WorkedRefusals.{WorkedRefusals};
 ghost use Rattle.plain.specs.WorkedYear.{WorkedYear};
 
@@ -52,6 +53,11 @@ pub fn worked_refusals()
 // A year of all kinds of calls, with every figure of its book total.
 pub fn worked_year()
     ensures { WorkedYear }
+{}
+
+/// A book with an investee of each kind, and every figure that it answers.
+pub fn worked_kinds()
+    ensures { WorkedKinds }
 {}
 
 // Each call changes what it names, and nothing else.
