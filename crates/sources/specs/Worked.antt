@@ -56,6 +56,11 @@ pub record WorkedBottoms : Type 0 where
 pub record WorkedLayers : Type 0 where
   -- 100 wan of output now and 120 in the base period, 1,000 kilograms then and 1,050 now
   pub estimate : estimate_meaning (periods 100 120 1000) (below (pos 1050)) ≡ Ok (reading (negsuc 216) 2)
+  -- outputs of 9,000,000 wan in both periods, so that 1,000 kilograms are expected, and one wan more in either; then a kilogram above 10^12
+  pub outputs_largest : estimate_meaning (periods 9000000 9000000 1000) (below (pos 400)) ≡ Ok (reading (pos 600) 2)
+  pub report_output_larger : estimate_meaning (periods 9000001 9000000 1000) (below (pos 400)) ≡ Err (fault FigureOutOfRange 0 4)
+  pub base_output_larger : estimate_meaning (periods 9000000 9000001 1000) (below (pos 400)) ≡ Err (fault FigureOutOfRange 0 4)
+  pub base_emissions_larger : estimate_meaning (periods 0 1 1000000000001) (below (pos 0)) ≡ Err (fault FigureOutOfRange 0 4)
   pub base_none : estimate_meaning (periods 100 0 1000) (below (pos 1050)) ≡ Err (fault FigureOutOfRange 0 4)
   pub estimate_largest : estimate_meaning (periods 1 1 1000000000000) (below (pos 0)) ≡ Ok (reading (pos 1000000000000) 2)
   pub estimate_larger : estimate_meaning (periods 1 1 1000000000000) (below (negsuc 0)) ≡ Err (fault ResultTooLarge 0 4)
@@ -67,6 +72,16 @@ pub record WorkedLayers : Type 0 where
   -- 3 MWh are 1,710 kilograms, and a tonne of each certificate 2,000
   pub offset_all : offset_meaning (offsets 3 1 1) (below (pos 3710)) ≡ Ok (reading (pos 0) 2)
   pub offset_above : offset_meaning (offsets 3 1 1) (below (pos 3709)) ≡ Err (fault OffsetsAboveReading 0 6)
-  pub offset_larger : offset_meaning (offsets 0 0 1000000001) (below (pos 0)) ≡ Err (fault FigureOutOfRange 0 6)
+  -- 10^9 MWh are 570,300,000,000 kilograms, and 10^9 tonnes of a certificate 10^12; then one more of each
+  pub power_largest : offset_meaning (offsets 1000000000 0 0) (below (pos 570300000001)) ≡ Ok (reading (pos 1) 2)
+  pub ccer_largest : offset_meaning (offsets 0 1000000000 0) (below (pos 1000000000000)) ≡ Ok (reading (pos 0) 2)
+  pub tickets_largest : offset_meaning (offsets 0 0 1000000000) (below (pos 1000000000000)) ≡ Ok (reading (pos 0) 2)
+  pub power_larger : offset_meaning (offsets 1000000001 0 0) (below (pos 0)) ≡ Err (fault FigureOutOfRange 0 6)
+  pub ccer_larger : offset_meaning (offsets 0 1000000001 0) (below (pos 0)) ≡ Err (fault FigureOutOfRange 0 6)
+  pub tickets_larger : offset_meaning (offsets 0 0 1000000001) (below (pos 0)) ≡ Err (fault FigureOutOfRange 0 6)
+  -- figures out of range over a source with a fault of its own: the layer does not read it
+  pub estimate_first : estimate_meaning (periods 100 9000001 1000) (reported_meaning 1 0) ≡ Err (fault FigureOutOfRange 0 4)
+  pub overseas_first : overseas_meaning (overseas 1000000000001) (reported_meaning 1 0) ≡ Err (fault FigureOutOfRange 0 5)
+  pub offset_first : offset_meaning (offsets 0 0 1000000001) (reported_meaning 1 0) ≡ Err (fault FigureOutOfRange 0 6)
   -- a fault from three layers down
   pub fault_below : offset_meaning (offsets 0 0 0) (overseas_meaning (overseas 0) (estimate_meaning (periods 1 1 0) (reported_meaning 1 0))) ≡ Err (fault NeitherVerifiedNorDisclosed 0 1)
