@@ -1,11 +1,15 @@
 -- A worked book under the guide of Pudong with an investee of each kind, and everything that it answers.
-use Rattle.std.specs.Prelude.{◌≡◌, ℕ, List, [], ◌∷◌, map, pos, Some, Ok}
+use Rattle.std.specs.Prelude.{◌≡◌, ℕ, List, [], ◌∷◌, ◌++◌, map, replicate, pos, Some, None, Ok}
 use Rattle.rules.specs.Pudong.{pudong_tables}
 use Rattle.rules.specs.declared.figures.Figures.{Figures}
 use Rattle.sources.specs.Readings.{reading}
 use Rattle.plain.specs.declared.answers.Answer.{Answer}
 use Rattle.plain.specs.declared.answers.Answer.TheVariants.{Done, Part, Total, Sheet, Book}
-use Rattle.plain.specs.PlainBook.{empty}
+use Rattle.plain.specs.declared.answers.InvesteeAccount.{InvesteeAccount}
+use Rattle.plain.specs.declared.answers.InvesteeTotal.{InvesteeTotal}
+use Rattle.plain.specs.declared.answers.Kilograms.{Kilograms}
+use Rattle.plain.specs.PlainBook.{PlainBook, empty}
+use Rattle.plain.specs.Readings.{accounts_of, sheets_of}
 use Rattle.plain.specs.Runs.{answer, answered, run}
 use Rattle.plain.specs.Steps.{Meaning, Step, enter, restate, reduce, post, amend, ask_part, ask_total, ask_sheet, ask_book_total}
 use Rattle.plain.specs.Worked.{kilograms}
@@ -44,7 +48,7 @@ calls =
     ∷ post 40 11 11 4000
     ∷ post 40 11 12 2000
     ∷ post 1 12 12 12000
-    ∷ post 1 13 12 3000
+    ∷ post 7 13 12 3000
     ∷ post 40 13 12 3000
     ∷ post 40 14 12 6000
     ∷ post 1 14 12 3000
@@ -56,24 +60,37 @@ calls =
 
 -- ---- the answers
 
--- what the book answers after the calls
+-- the book after the calls, and what it answers
+abbrev pub book_of_kinds : PlainBook
+book_of_kinds = run pudong_tables empty calls
+
 abbrev pub of_kinds : Step → Answer
-of_kinds c = answer pudong_tables (run pudong_tables empty calls) c
+of_kinds c = answer pudong_tables book_of_kinds c
 
 -- the parts of branches 1 and 40 on an investee, and its total
 abbrev pub told_of : ℕ → List Answer
 told_of id = map of_kinds (ask_part id 1 ∷ ask_part id 40 ∷ ask_total id ∷ [])
 
 -- emissions and reduction
+abbrev pub measures : ℕ → ℕ → Kilograms
+measures e r = kilograms (pos e) (pos r)
+
 abbrev pub part : ℕ → ℕ → Answer
-part e r = Part (kilograms (pos e) (pos r))
+part e r = Part (measures e r)
 
 abbrev pub sheet : ℕ → ℕ → Answer
-sheet e r = Sheet (kilograms (pos e) (pos r))
+sheet e r = Sheet (measures e r)
 
 -- emissions, reduction, reason and grade
+abbrev pub figures_told : ℕ → ℕ → ℕ → ℕ → InvesteeTotal
+figures_told e r reason grade = record { kilograms = measures e r; reason = reason; grade = grade }
+
 abbrev pub total : ℕ → ℕ → ℕ → ℕ → Answer
-total e r reason grade = Total (record { kilograms = kilograms (pos e) (pos r); reason = reason; grade = grade })
+total e r reason grade = Total (figures_told e r reason grade)
+
+-- on a page an investee's id stands beside its total
+abbrev pub account : ℕ → ℕ → ℕ → ℕ → ℕ → InvesteeAccount
+account id e r reason grade = record { id = id; total = figures_told e r reason grade }
 
 pub record WorkedKinds : Type 0 where
   pub every_call_accepted : answered pudong_tables empty calls ≡ map (λ c. Done) calls
@@ -89,7 +106,7 @@ pub record WorkedKinds : Type 0 where
   pub general_loan : told_of 15 ≡ part 1000 120 ∷ part 2000 240 ∷ total 3000 360 0 1 ∷ []
   -- 12 times 1,000, of 12 × 2,000
   pub bond : told_of 16 ≡ part 0 0 ∷ part 4000 0 ∷ total 4000 0 0 5 ∷ []
-  pub sheets : map of_kinds (ask_sheet 1 ∷ ask_sheet 2 ∷ ask_sheet 40 ∷ []) ≡ sheet 2034 150 ∷ sheet 0 0 ∷ sheet 6666 300 ∷ []
+  pub sheets : map of_kinds (ask_sheet 1 ∷ ask_sheet 7 ∷ ask_sheet 40 ∷ []) ≡ sheet 2034 150 ∷ sheet 0 0 ∷ sheet 6666 300 ∷ []
   -- Of ten positions two are on the project, and two on the investee that is left out; a reduction is set for five of the other eight.
   -- The grades 2, 3, 4, 1 and 5 weigh 9,000, 12,000, 9,000, 18,000 and 12,000, so that their mean is 168,000 / 60,000.
   pub book_total : of_kinds ask_book_total ≡ Book (record {
@@ -98,3 +115,6 @@ pub record WorkedKinds : Type 0 where
     all = subtotal (pos 8700) (pos 450) (Some 8000) (Some 5000);
     mean_grade = Some 280;
   })
+  -- what a page is made of: investees in the order of their openings, and the sheets of branches with a position, that of branch 7 too
+  pub accounts_of_a_page : accounts_of pudong_tables book_of_kinds ≡ account 11 900 90 0 2 ∷ account 12 700 0 0 3 ∷ account 13 0 0 3 5 ∷ account 14 100 0 0 4 ∷ account 15 3000 360 0 1 ∷ account 16 4000 0 0 5 ∷ []
+  pub sheets_of_a_page : sheets_of pudong_tables book_of_kinds ≡ Some (measures 2034 150) ∷ (replicate 5 None ++ Some (measures 0 0) ∷ (replicate 32 None ++ Some (measures 6666 300) ∷ []))

@@ -18,4 +18,6 @@ returns c = record {
   bond = refl;
   sheets = refl;
   book_total = refl;
+  accounts_of_a_page = refl;
+  sheets_of_a_page = refl;
 }
