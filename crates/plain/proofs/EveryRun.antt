@@ -119,6 +119,10 @@ all-answered t p = record {
   book_total_answered = refl;
 }
 
+-- a book answers whatever it has to
+pub own-answers : (t : Tables) (p : PlainBook) → Answered p (answer t p)
+own-answers t p = all-answered t p
+
 -- ---- kilograms
 
 -- the kind of projects has its number alone

@@ -15,6 +15,7 @@ pub mod EachCall
 pub mod UnderRule
 pub mod Covers
 pub mod EveryRun
+pub mod Somebody
 pub mod Due
 pub mod Exposures
 pub mod Runs

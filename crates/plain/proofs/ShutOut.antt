@@ -23,6 +23,7 @@ use Rattle.plain.specs.Runs.{answer, ReachedByARun}
 use Rattle.plain.specs.Steps.{Step, enter, post, ask_part, ask_total, ask_book_total}
 use Rattle.plain.specs.Sums.{sum_over, down_from}
 use Rattle.plain.specs.Worked.{accounts, company, reads, posts, kilograms, totalled}
+use Rattle.plain.proofs.Somebody.{parted-by-some, answers-of-999}
 use Rattle.plain.proofs.Sums.{sum-branches}
 
 first-branch : Branch 1
@@ -174,9 +175,17 @@ shut_out = record {
   each_branch_rounded_by_itself = for-its-book thirds (40000 ∷ 40000 ∷ 40000 ∷ []) rounded_by_itself of_thirds rounded-alone;
   cap_taken_by_each_branch = for-its-book unequal (120000 ∷ 60000 ∷ []) capped_by_itself of_unequal capped-alone;
   divided_by_months_posted = for-its-book four_months (40000 ∷ []) (over_months_posted 40000) of_four_months months-posted;
+  each_way_has_answers = λ way. (
+    parted-by-some way thirds (40000 ∷ 40000 ∷ 40000 ∷ []) of_thirds,
+    (
+      parted-by-some way unequal (120000 ∷ 60000 ∷ []) of_unequal,
+      (parted-by-some way four_months (40000 ∷ []) of_four_months, tt),
+    ),
+  );
   everything_declined = everything-declined;
   one_part_declined = one-part-declined;
   another_total = another-total;
+  a_book_with_another_figure_answers = answers-of-999;
   answers_of_a_book_with_another_figure = of-999;
   a_book_with_another_figure = opened-otherwise;
 }

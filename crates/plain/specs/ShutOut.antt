@@ -78,6 +78,10 @@ over_months_posted w a b = rounded a.figure (exposure_at a.lent b) (max w (expos
 abbrev pub PartedBy : Way → (p : PlainBook) (ask : Step → Answer) → Answered p ask → Type 0
 PartedBy way p ask answers = AllByRecursion (λ a. (b : ℕ) → Branch b → (answers.part_of a.id b).emissions ≡ way a b) (apportionments national_tables p emissions)
 
+-- somebody answers the readings of the book in this way
+abbrev pub PartedBySome : Way → PlainBook → Type 0
+PartedBySome way p = (ask : Step → Answer) × (answers : Answered p ask) × PartedBy way p ask answers
+
 -- the emissions that such answers tell are not kept
 abbrev pub Loses : (p : PlainBook) (ask : Step → Answer) → Answered p ask → Type 0
 Loses p ask answers = KeepsEveryKilogram national_tables p emissions ask answers → ⊥
@@ -113,11 +117,14 @@ pub record SimplerAnswersShutOut : Type 0 where
   pub cap_taken_by_each_branch : GainsOrLoses unequal capped_by_itself
   -- four months of 10,000
   pub divided_by_months_posted : GainsOrLoses four_months (over_months_posted 40000)
+  -- there are such answers, whatever the way, so that none of these statements is empty
+  pub each_way_has_answers : (way : Way) → AllByRecursion (PartedBySome way) (thirds ∷ unequal ∷ four_months ∷ [])
   -- refusals are no answers, be it all of them, or one for the part of one branch
   pub everything_declined : (p : PlainBook) (ask : Step → Answer) → DeclinesEverything ask → Answered p ask → ⊥
   pub one_part_declined : (ask : Step → Answer) (f : Fault) → ask (ask_part 7 2) ≡ Declined f → Answered thirds ask → ⊥
   -- all is lent to the investee, so that its total is what the source has read: no other is, nor are the answers of a book with another figure
   pub another_total : (ask : Step → Answer) (answers : Answered thirds ask) → (answers.total_of 7).kilograms.emissions ≢ pos 1000 → Loses thirds ask answers
+  pub a_book_with_another_figure_answers : Answered thirds (answer national_tables thirds_of_999)
   pub answers_of_a_book_with_another_figure : (answers : Answered thirds (answer national_tables thirds_of_999)) → Loses thirds (answer national_tables thirds_of_999) answers
   -- and no such book comes of the opening
   pub a_book_with_another_figure : (q : PlainBook) (x : PlainInvestee) → investee_of 7 q ≡ Some x → x.kilograms ≢ pos 1000 → OpenedWith1000 q → ⊥
