@@ -18,5 +18,5 @@ one-or-none false = lit≤ tt
 pub from-days-lawful : (least : ℕ) → Lawful (from_days_tables least)
 from-days-lawful least = record {
   bases_in_range = λ kind figures within. whole_in_range figures.revenue within.revenue;
-  reasons_in_range = λ financing. one-or-none (nat_lt financing.days least);
+  reasons_in_range = λ financing asked. one-or-none (nat_lt financing.days least);
 }

@@ -10,5 +10,5 @@ nobody_tables = record { bases = λ kind figures. Ok Whole; reasons = λ financi
 pub nobody-lawful : Lawful nobody_tables
 nobody-lawful = record {
   bases_in_range = λ kind figures within. tt;
-  reasons_in_range = λ financing. lit≤ tt;
+  reasons_in_range = λ financing asked. lit≤ tt;
 }

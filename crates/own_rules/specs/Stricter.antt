@@ -16,5 +16,5 @@ five-or-less false n h = h
 pub stricter-lawful : (least : ℕ) (t : Tables) → Lawful t → Lawful (stricter_tables least t)
 stricter-lawful least t law = record {
   bases_in_range = law.bases_in_range;
-  reasons_in_range = λ financing. five-or-less (nat_lt financing.days least) (t.reasons financing) (law.reasons_in_range financing);
+  reasons_in_range = λ financing asked. five-or-less (nat_lt financing.days least) (t.reasons financing) (law.reasons_in_range financing asked);
 }

@@ -1,4 +1,4 @@
-// A rule that divides everything by total assets, and counts everybody.
+// A rule that divides everything by total assets, and leaves out exposures of a million wan or more.
 ghost use Rattle.own_rules.specs.ByAssets.{asset_tables, assets-lawful};
 
 use faults::Refusal;
@@ -19,7 +19,8 @@ impl Rule for ByAssets {
         Base::given(figures.total_assets)
     }
 
-    fn reason(&self, _financing: Financing) -> u8 {
-        0
+    // The whole millions of wan in the exposure. The largest exposure has 9, and no book asks of more.
+    fn reason(&self, financing: Financing) -> u8 {
+        (financing.exposure / 1_000_000).min(255) as u8
     }
 }

@@ -32,6 +32,10 @@ fn everything_by_total_assets(rt: HostRuntime) {
     let given = attributed(&ByAssets, vehicle(700), 0, 0);
     assert_eq!(rt; given.base, Ok(Base::Amount(700)));
     assert_eq!(rt; given.reason, 0);
+    assert_eq!(rt; attributed(&ByAssets, vehicle(700), 999_999, 0).reason, 0);
+    assert_eq!(rt; attributed(&ByAssets, vehicle(700), 1_000_000, 0).reason, 1);
+    assert_eq!(rt; attributed(&ByAssets, vehicle(700), 8_999_999, 0).reason, 8);
+    assert_eq!(rt; attributed(&ByAssets, vehicle(700), 9_000_000, 0).reason, 9);
     assert_eq!(rt;
         attributed(&ByAssets, vehicle(0), 0, 0).base,
         Err(Refusal::FigureNotGiven)

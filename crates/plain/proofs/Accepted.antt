@@ -1,10 +1,9 @@
 -- What is known of a call that is not declined.
-use Rattle.std.proofs.Common.{◌≡◌, ℕ, ◌≤◌, Bool, true, false, not, leb, List, length, Some, None, Ok, Err, Option, Result, sym, refl, subst, arith}
+use Rattle.std.proofs.Common.{◌≡◌, ℕ, ◌≤◌, Bool, true, false, not, leb, List, length, Some, None, Ok, Err, Option, Result, refl, arith}
 use Rattle.std.proofs.lemmas.Bool.Decides.{nat_tests}
 use Rattle.std.proofs.lemmas.Bool.{not-false}
 use Rattle.faults.specs.declared.Fault.{Fault}
 use Rattle.faults.specs.declared.Refusal.{Refusal}
-use Rattle.rules.specs.Figures.{WithinLimits}
 use Rattle.rules.specs.Months.{months}
 use Rattle.rules.specs.Tables.{Tables}
 use Rattle.rules.specs.declared.figures.Base.{Base}
@@ -12,7 +11,6 @@ use Rattle.rules.specs.declared.investees.InvesteeFields.{InvesteeFields}
 use Rattle.rules.specs.Investees.{profile_of}
 use Rattle.rules.specs.declared.investees.Profile.{Profile}
 use Rattle.sources.specs.declared.reading.Reading.{Reading}
-use Rattle.rules.proofs.Ranges.{within-accepted}
 use Rattle.plain.specs.Branches.{Branch}
 use Rattle.plain.specs.Changes.{posted, amended, changed}
 use Rattle.plain.specs.Limits.{most_investees, most_balance}
@@ -63,11 +61,6 @@ pub entry-within : (b m v : ℕ) → entry_out_of_range b m v ≡ false → Entr
 entry-within b m v e = grind (arith, nat_tests)
 
 -- ---- the calls
-
-pub checked-figures : (f : InvesteeFields) (x : Profile) → profile_of f ≡ Ok x → WithinLimits x.figures
-checked-figures f x e =
-    let accepted = within-accepted f x e in
-    subst WithinLimits (sym accepted.1.same_figures) accepted.0.figures_to
 
 pub record Opened (t : Tables) (p : PlainBook) (fields : InvesteeFields) (meaning : Meaning) : Type 0 where
   pub profile : Profile

@@ -18,7 +18,7 @@ use Rattle.rules.specs.declared.investees.InvesteeFields.{InvesteeFields}
 use Rattle.rules.specs.declared.investees.Profile.{Profile}
 use Rattle.rules.specs.declared.kinds.Kind.{Kind}
 use Rattle.rules.specs.declared.kinds.Kind.TheVariants.{Project, PropertyDevelopment, PropertyPurchase, Vehicle, GeneralLoan, Bond}
-use Rattle.rules.proofs.Ranges.{accepted-within, within-or-refused}
+use Rattle.rules.proofs.Ranges.{accepted-in-range, accepted-within, within-or-refused}
 use Rattle.sources.specs.declared.reading.Reading.{Reading}
 use Rattle.plain.specs.Branches.{branch_count}
 use Rattle.plain.specs.Changes.{posted, amended}
@@ -29,7 +29,6 @@ use Rattle.plain.specs.Parts.{Denominator, at_least, whole}
 use Rattle.plain.specs.PlainBook.{PlainInvestee, PlainPosition, PlainBook, investee_of, is_open, position_of}
 use Rattle.plain.specs.Refused.{refuse, if_in_range, if_based, if_open, if_read, branch_out_of_range, entry_out_of_range, bond_outside_closing, no_room_for, passes, too_much_lent, below_zero}
 use Rattle.plain.specs.Steps.{Meaning, enter, restate, reduce, post, amend, ask_part, ask_total, ask_sheet, ask_book_total}
-use Rattle.plain.proofs.Accepted.{checked-figures}
 
 -- ---- one place of the order
 
@@ -186,7 +185,7 @@ refused-when-due t lawful p (enter f meaning) =
     due-fields f _ _ (λ x ok has.
     due-refuse AlreadyOpen _ _ (λ h. ap (λ id. is_open id p) (sym has.same_id) ∙ h, λ h. ap (λ id. is_open id p) has.same_id ∙ h) (λ _.
     due-refuse InvesteesFull _ _ (leb-true most_investees (length p.investees), le-leb most_investees (length p.investees)) (λ _.
-    due-based (t.bases x.kind x.figures) (RuleRefuses t f) _ _ (lawful.bases_in_range x.kind x.figures (checked-figures f x ok)) (λ e h. rule-refuses t f x e has h) (λ e h. refuses-rule t f x e has h)
+    due-based (t.bases x.kind x.figures) (RuleRefuses t f) _ _ (lawful.bases_in_range x.kind x.figures (accepted-in-range f x ok).figures_to) (λ e h. rule-refuses t f x e has h) (λ e h. refuses-rule t f x e has h)
     (due-source meaning below_zero _ (λ r e. due_below meaning r e)))))
 refused-when-due t lawful p (restate id meaning) = due-open id p _ _ (λ x found. due-source meaning below_zero _ (λ r e. due_below meaning r e))
 refused-when-due t lawful p (reduce id meaning) = due-open id p _ _ (λ x found. due-source meaning (λ r. None) _ (λ r e. none-due))

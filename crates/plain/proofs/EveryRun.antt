@@ -1,5 +1,5 @@
 -- Every run keeps every kilogram.
-use Rattle.std.proofs.Common.{◌≡◌, ℕ, ◌*◌, Bool, true, false, cond, not, eqb, ◌≢◌, ◌↔◌, ◌&&◌, List, [], ◌∷◌, ◌++◌, map, take, ℤ, pos, ◌+ℤ◌, is_some, Some, None, Option, filter, sum_by, sym, refl, ap, ◌∙◌, subst, ap₂, arith}
+use Rattle.std.proofs.Common.{◌≡◌, ℕ, ◌*◌, ◌≤◌, Bool, true, false, cond, not, eqb, ◌≢◌, ◌↔◌, ◌&&◌, List, [], ◌∷◌, ◌++◌, map, take, ℤ, pos, ◌+ℤ◌, is_some, Some, None, Option, filter, sum_by, sym, refl, ap, ◌∙◌, subst, ap₂, arith}
 use mathlib.Core.Path.{fun_ext}
 use Rattle.std.specs.List.{AllByRecursion}
 use Rattle.std.proofs.ByRecursion.{All-weaker, All-map, All-take, All-append, all_kept_by, kept_by_passes}
@@ -18,7 +18,8 @@ use Rattle.plain.specs.declared.answers.InvesteeTotal.{InvesteeTotal}
 use Rattle.plain.specs.declared.answers.Kilograms.{Kilograms}
 use Rattle.plain.specs.Covers.{IsShare, is_of_kind, told_counted, positions_on_those, CoversOf, CoversAreShares, MeanGradeIsNearest}
 use Rattle.plain.specs.Exposures.{exposure_to, positions_on, lent_by, lent_to, is_counted, reason_of, Measure, emissions, reductions, apportionment, apportionments}
-use Rattle.plain.specs.Kept.{KeptByEveryRun, KeptOfBonds, KeptUnderRule}
+use Rattle.plain.specs.Kept.{InvesteeInRange, KeptByEveryRun, KeptOfBonds, KeptUnderRule}
+use Rattle.plain.specs.Limits.{most_exposure}
 use Rattle.plain.specs.Lists.{Pairwise}
 use Rattle.plain.specs.Parts.{part, total, sheet, book_total, OncePerBranch, Orderly}
 use Rattle.plain.specs.PlainBook.{PlainInvestee, PlainPosition, PlainBook, empty, id_of, investee_of, is_open}
@@ -26,6 +27,7 @@ use Rattle.plain.specs.Readings.{both, of_investee, part_of, total_of, sheet_of,
 use Rattle.plain.specs.Refused.{if_open, branch_out_of_range}
 use Rattle.plain.specs.Runs.{unless, after, answer, run, ReachedByARun}
 use Rattle.plain.specs.Steps.{Step, ask_part, ask_total, ask_sheet, WithinSourceLimits}
+use Rattle.plain.proofs.Asked.{reason-in-range}
 use Rattle.plain.proofs.Bonds.{bonds-at-first, bonds-by-a-call}
 use Rattle.plain.proofs.Kept.{kept-at-first, kept-by-a-call}
 use Rattle.plain.proofs.Covers.{hundredths-share, nearest-mean}
@@ -66,7 +68,7 @@ orderly-each : (t : Tables) → Lawful t → (p : PlainBook) (m : Measure) → K
 orderly-each t lawful p m ok =
     All-weaker _ _ (λ x h. record {
       once_per_branch = once_per_branch p ok x;
-      above_zero = above_zero (t.bases x.profile.kind x.profile.figures) (lawful.bases_in_range x.profile.kind x.profile.figures h.figures_within_limits);
+      above_zero = above_zero (t.bases x.profile.kind x.profile.figures) (lawful.bases_in_range x.profile.kind x.profile.figures h.profile_in_range.figures_to);
     }) p.investees ok.investees_in_range
 
 orderly : (t : Tables) → Lawful t → (p : PlainBook) (m : Measure) → KeptByEveryRun p → AllByRecursion Orderly (apportionments t p m)
@@ -219,9 +221,10 @@ module _ (t : Tables) (p : PlainBook) where
   abbrev Found : PlainInvestee → Type 0
   Found x = investee_of (id_of x) p ≡ Some x
 
-  tells-why : (x : PlainInvestee) → Found x → TellsWhy t p (answer t p) answers x
-  tells-why x found = record {
+  tells-why : Lawful t → KeptByEveryRun p → (x : PlainInvestee) → Found x × (InvesteeInRange x × (exposure_to x p.positions ≤ most_exposure)) → TellsWhy t p (answer t p) answers x
+  tells-why lawful kept x (found, (range, most)) = record {
     reason_is_the_rule's = rw found refl;
+    reason_in_range = rw found (reason-in-range t lawful x p.positions range.profile_in_range kept.positions_in_range most);
     grade_is_the_reading's = rw found refl;
     no_part_with_a_reason = λ why b branch m. part-answered t p m x found b ∙ part-uncounted (apportionment t p.positions m x) b (uncounted why);
     no_total_with_a_reason = λ why m.
@@ -293,7 +296,8 @@ holds-at t lawful p kept = record {
   orderly = λ m. orderly t lawful p m kept;
   answers = all-answered t p;
   kilograms = kilograms-at t lawful p kept;
-  reasons = All-weaker _ _ (tells-why t p) p.investees (found-by-key id_of p.investees kept.ids_differ);
+  reasons = All-weaker _ _ (tells-why t p lawful kept) p.investees
+      (all_both _ _ p.investees (found-by-key id_of p.investees kept.ids_differ) (all_both _ _ p.investees kept.investees_in_range kept.exposures_within_limit));
   covers = covers-told t p kept (found-by-key id_of p.investees kept.ids_differ);
   mean_grade = mean-told t p (found-by-key id_of p.investees kept.ids_differ);
 }

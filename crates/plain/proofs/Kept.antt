@@ -7,9 +7,10 @@ use Rattle.std.proofs.lemmas.Int.{ints}
 use Rattle.std.proofs.lemmas.Bool.Decides.{nat_tests}
 use Rattle.std.proofs.lemmas.Bool.{both_ways, cases_eq, ne_eqb, cond-false, eqb-false, leb-false}
 use Rattle.faults.specs.declared.Fault.{Fault}
-use Rattle.rules.specs.Figures as figures
+use Rattle.rules.specs.Investees.{ProfileInRange}
 use Rattle.rules.specs.Tables.{Tables}
 use Rattle.rules.specs.declared.investees.Profile.{Profile}
+use Rattle.rules.proofs.Ranges.{accepted-in-range}
 use Rattle.sources.specs.Readings.{WithinLimits, InLimits}
 use Rattle.sources.specs.declared.reading.Reading.{Reading}
 use Rattle.plain.specs.Changes.{opened, restated, reduced_by, read_into, added, with_position, amended, changed}
@@ -22,7 +23,7 @@ use Rattle.plain.specs.PlainBook.{PlainInvestee, PlainPosition, PlainBook, empty
 use Rattle.plain.specs.Refused.{declined, too_much_lent, below_zero}
 use Rattle.plain.specs.Runs.{after}
 use Rattle.plain.specs.Steps.{Meaning, Step, enter, restate, reduce, post, amend, ask_part, ask_total, ask_sheet, ask_book_total, WithinSourceLimits}
-use Rattle.plain.proofs.Accepted.{by-a-call, Entered, checked-figures, if_open-none, if_read-none, opened-none, posted-none, amended-none}
+use Rattle.plain.proofs.Accepted.{by-a-call, Entered, if_open-none, if_read-none, opened-none, posted-none, amended-none}
 use Rattle.plain.proofs.Lists.{none_passes, still-found, found-by-key, found-changed, length-change, all-change, pairwise-change, pairwise-push, all_both}
 use Rattle.plain.proofs.Positions.{Differ, all-with-position, length-with-position, differ-with-position, new-in-range, length-amended, differ-amended, in-range-amended, all-amended, others-amended, others-posted}
 
@@ -43,7 +44,7 @@ not-below-zero r e = grind (arith, ints)
 read-limits : (m : Meaning) (r : Reading) → m ≡ Ok r → WithinLimits m → InLimits r
 read-limits m r e h = subst WithinLimits e h
 
-opened-in-range : (x : Profile) (r : Reading) → figures.WithinLimits x.figures → InLimits r → below_zero r ≡ None → InvesteeInRange (opened x r)
+opened-in-range : (x : Profile) (r : Reading) → ProfileInRange x → InLimits r → below_zero r ≡ None → InvesteeInRange (opened x r)
 opened-in-range x r figures limits e = search (rules, not-below-zero)
 
 -- a new id is that of no investee and of no position
@@ -57,7 +58,7 @@ nothing_lent : exposures [] ≤ most_exposure
 unfolding exposures
 nothing_lent = omega arith
 
-kept-opened : (p : PlainBook) (x : Profile) (r : Reading) → KeptByEveryRun p → is_open x.id p ≡ false → length p.investees < most_investees → figures.WithinLimits x.figures → InLimits r → below_zero r ≡ None
+kept-opened : (p : PlainBook) (x : Profile) (r : Reading) → KeptByEveryRun p → is_open x.id p ≡ false → length p.investees < most_investees → ProfileInRange x → InLimits r → below_zero r ≡ None
     → KeptByEveryRun (with_investees p (p.investees ++ opened x r ∷ []))
 kept-opened p x r ok is-new room figures limits below = record {
   investees_within_limit = omega (arith, length_push p.investees (opened x r));
@@ -167,7 +168,7 @@ kept-changed-book : (t : Tables) (p : PlainBook) (c : Step) → WithinSourceLimi
 kept-changed-book t p (enter fields meaning) limits ok e =
     let o = opened-none t p fields meaning e in
     subst (λ xs. KeptByEveryRun (with_investees p xs)) (sym (ap₂ (λ (x : Result Profile Fault) (r : Meaning). added x r p.investees) o.in_range o.read))
-    (kept-opened p o.profile o.reading ok o.is-new (leb-false most_investees (length p.investees) o.room) (checked-figures fields o.profile o.in_range) (read-limits meaning o.reading o.read limits) o.not_below)
+    (kept-opened p o.profile o.reading ok o.is-new (leb-false most_investees (length p.investees) o.room) (accepted-in-range fields o.profile o.in_range) (read-limits meaning o.reading o.read limits) o.not_below)
 kept-changed-book t p (restate id meaning) limits ok e =
     let o = if_open-none (investee_of id p) _ e in
     let r = if_read-none meaning below_zero o.2 in

@@ -11,6 +11,7 @@ pub mod Accepted
 pub mod Positions
 pub mod Kept
 pub mod Bonds
+pub mod Asked
 pub mod EachCall
 pub mod UnderRule
 pub mod Covers

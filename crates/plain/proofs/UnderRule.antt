@@ -10,6 +10,7 @@ use Rattle.rules.specs.Tables.{Tables, Lawful, BaseInRange}
 use Rattle.rules.specs.declared.figures.Base.{Base}
 use Rattle.rules.specs.declared.figures.Base.TheVariants.{Amount, Whole}
 use Rattle.rules.specs.declared.investees.Profile.{Profile}
+use Rattle.rules.proofs.Ranges.{accepted-in-range}
 use Rattle.sources.specs.declared.reading.Reading.{Reading}
 use Rattle.plain.specs.Changes.{opened, restated, reduced_by, read_into, added, changed}
 use Rattle.plain.specs.Exposures.{is_bond, exposure_to, lent_by, positions_on, denominator_from, denominator_of}
@@ -20,7 +21,7 @@ use Rattle.plain.specs.PlainBook.{PlainInvestee, PlainPosition, PlainBook, empty
 use Rattle.plain.specs.Refused.{declined, too_much_lent, passes}
 use Rattle.plain.specs.Runs.{after}
 use Rattle.plain.specs.Steps.{Meaning, Step, enter, restate, reduce, post, amend, ask_part, ask_total, ask_sheet, ask_book_total, WithinSourceLimits}
-use Rattle.plain.proofs.Accepted.{by-a-call, Entered, checked-figures, opened-none, posted-none, amended-none}
+use Rattle.plain.proofs.Accepted.{by-a-call, Entered, opened-none, posted-none, amended-none}
 use Rattle.plain.proofs.Kept.{all-profiles, no-positions, no-position-yet, exposures-entered, same-profile}
 use Rattle.plain.proofs.Positions.{others-amended, others-posted}
 
@@ -76,7 +77,7 @@ ruled-changed : (t : Tables) → Lawful t → (p : PlainBook) (c : Step) → Kep
 ruled-changed t lawful p (enter fields meaning) kept ok e =
     let o = opened-none t p fields meaning e in
     subst (λ xs. KeptUnderRule t (with_investees p xs)) (sym (ap₂ (λ (x : Result Profile Fault) (r : Meaning). added x r p.investees) o.in_range o.read))
-    (ruled-opened t lawful p o.profile o.reading o.base kept ok o.is-new (checked-figures fields o.profile o.in_range) o.based)
+    (ruled-opened t lawful p o.profile o.reading o.base kept ok o.is-new (accepted-in-range fields o.profile o.in_range).figures_to o.based)
 ruled-changed t lawful p (restate id meaning) kept ok e = ruled-read t p id (read_into restated meaning) (same-profile restated (λ r x. refl) meaning) ok
 ruled-changed t lawful p (reduce id meaning) kept ok e = ruled-read t p id (read_into reduced_by meaning) (same-profile reduced_by (λ r x. refl) meaning) ok
 ruled-changed t lawful p (post b id m v) kept ok e = ruled-entered t p b id m v false _ kept ok (posted-none t p b id m v e).0 (λ j ne. others-posted b id m v j ne p.positions)

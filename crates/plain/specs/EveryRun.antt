@@ -1,5 +1,5 @@
 -- That no kilogram is gained or lost by any run of any book, under any rule and with any sources.
-use Rattle.std.specs.Prelude.{◌≡◌, ℕ, true, ◌≢◌, ◌↔◌, List, ◌++◌, map, take, ℤ, pos, ◌+ℤ◌}
+use Rattle.std.specs.Prelude.{◌≡◌, ℕ, ◌≤◌, true, ◌≢◌, ◌↔◌, List, ◌++◌, map, take, ℤ, pos, ◌+ℤ◌}
 use Rattle.std.specs.List.{AllByRecursion}
 use Rattle.rules.specs.Investees.{financing_of}
 use Rattle.rules.specs.Tables.{Tables, Lawful, reason_for}
@@ -43,10 +43,11 @@ pub record KeepsEveryKilogram (t : Tables) (p : PlainBook) (m : Measure) (ask : 
   pub rest_adds_up : GroupAddsUp t p m ask answers (rest_of p) (measured m answers.book_total.rest.kilograms)
   pub projects_and_rest_make_all : measured m answers.book_total.projects.kilograms +ℤ measured m answers.book_total.rest.kilograms ≡ measured m answers.book_total.all.kilograms
 
--- What the total of an investee tells beside kilograms: the rule's reason to leave it out, or 0, and the grade of its reading.
+-- What the total of an investee tells beside kilograms: the rule's reason to leave it out, 1 to 9, or 0, and the grade of its reading.
 -- Where there is a reason, nothing falls to anybody.
 pub record TellsWhy (t : Tables) (p : PlainBook) (ask : Step → Answer) (answers : Answered p ask) (x : PlainInvestee) : Type 0 where
   pub reason_is_the_rule's : (answers.total_of (id_of x)).reason ≡ reason_for t (financing_of x.profile (exposure_to x p.positions) (closing_to x p.positions))
+  pub reason_in_range : (answers.total_of (id_of x)).reason ≤ 9
   pub grade_is_the_reading's : (answers.total_of (id_of x)).grade ≡ x.grade
   pub no_part_with_a_reason : (answers.total_of (id_of x)).reason ≢ 0 → (b : ℕ) → Branch b → (m : Measure) → measured m (answers.part_of (id_of x) b) ≡ pos 0
   pub no_total_with_a_reason : (answers.total_of (id_of x)).reason ≢ 0 → (m : Measure) → measured m (answers.total_of (id_of x)).kilograms ≡ pos 0

@@ -2,7 +2,7 @@
 use Rattle.std.specs.Prelude.{◌≡◌, ℕ, ◌≤◌, true, false, ◌&&◌, ◌≢◌, length, pos, ◌≤ℤ◌, is_ok, None, unsigned_abs, sum_by}
 use Rattle.std.specs.Option.{unwrap_or}
 use Rattle.std.specs.List.{AllByRecursion}
-use Rattle.rules.specs.Figures.{WithinLimits}
+use Rattle.rules.specs.Investees.{ProfileInRange}
 use Rattle.rules.specs.Months.{months}
 use Rattle.rules.specs.Tables.{Tables, Lawful}
 use Rattle.sources.specs.Limits.{most_kilograms}
@@ -17,9 +17,9 @@ use Rattle.plain.specs.Refused.{passes}
 use Rattle.plain.specs.Runs.{after}
 use Rattle.plain.specs.Steps.{Step, WithinSourceLimits}
 
--- an investee's figures, kilograms and grade are within their limits
+-- an investee's profile, kilograms and grade are within their limits
 pub record InvesteeInRange (x : PlainInvestee) : Type 0 where
-  pub figures_within_limits : WithinLimits x.profile.figures
+  pub profile_in_range : ProfileInRange x.profile
   pub kilograms_within_limit : unsigned_abs x.kilograms ≤ most_kilograms
   pub kilograms_not_below_zero : pos 0 ≤ℤ x.kilograms
   pub reduction_within_limit : unsigned_abs x.reduction ≤ most_kilograms

@@ -1,5 +1,6 @@
 -- How much one book holds.
 use Rattle.std.specs.Prelude.{ℕ}
+pub use Rattle.rules.specs.Investees.{most_exposure}
 
 abbrev pub most_investees : ℕ
 most_investees = 200
@@ -10,7 +11,3 @@ most_positions = 500
 -- the largest balance of a month, in wan
 abbrev pub most_balance : ℕ
 most_balance = 9000000
-
--- the largest exposure to one investee, in wan
-abbrev pub most_exposure : ℕ
-most_exposure = 9000000

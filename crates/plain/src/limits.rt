@@ -19,8 +19,8 @@ pub const MOST_POSITIONS: usize = 500;
 // The largest balance of a month, in wan.
 pub const MOST_BALANCE: u64 = 9_000_000;
 
-// The largest exposure to one investee in a year, in wan. A figure of at most 10^12 kilograms times it fits 64 bits with a sign.
-pub const MOST_EXPOSURE: u64 = 9_000_000;
+// A figure of at most 10^12 kilograms times it fits 64 bits with a sign.
+pub use rules::investees::MOST_EXPOSURE;
 
 // Whether no branch has this number.
 pub fn branch_out_of_range(branch: u64) -> bool

@@ -1,5 +1,5 @@
 -- Fields are accepted exactly when each is within its range.
-use Rattle.std.proofs.Common.{◌≡◌, ℕ, zero, suc, ◌≤◌, true, ◌⊎◌, Some, None, Ok, Option, refl, subst, inl, inr, ⊎_elim, arith}
+use Rattle.std.proofs.Common.{◌≡◌, ℕ, zero, suc, ◌≤◌, true, ◌⊎◌, Some, None, Ok, Option, sym, refl, subst, inl, inr, ⊎_elim, arith}
 use Rattle.std.proofs.lemmas.Bool.Decides.{nat_tests}
 use Rattle.std.proofs.lemmas.Bool.{cond_both}
 use Rattle.rules.specs.declared.kinds.Kind.{Kind}
@@ -8,8 +8,9 @@ use Rattle.rules.specs.declared.kinds.Size.{Size}
 use Rattle.rules.specs.declared.kinds.Size.TheVariants.{Large, Medium, Small, Micro, Person}
 use Rattle.rules.specs.declared.investees.InvesteeFields.{InvesteeFields}
 use Rattle.rules.specs.declared.investees.Profile.{Profile}
+use Rattle.rules.specs.Figures.{WithinLimits}
 use Rattle.rules.specs.Kinds.{kind_number, kind_numbered, size_number, size_numbered}
-use Rattle.rules.specs.Investees.{numbers_in_range, profile, profiled, profile_of, out_of_range, WithinRanges, SameNumbers}
+use Rattle.rules.specs.Investees.{numbers_in_range, profile, profiled, profile_of, out_of_range, last_id, last_sector, most_days, ProfileInRange, WithinRanges, SameNumbers}
 
 kind-from-number : (n : ℕ) → 1 ≤ n → n ≤ 6 → (k : Kind) × (kind_numbered n ≡ Some k) × (kind_number k ≡ n)
 kind-from-number zero low high = absurd (omega arith)
@@ -75,3 +76,16 @@ within-accepted f p e =
     (w, subst (SameNumbers f) same one.2))
     (λ r. absurd cc)
     (within-or-refused f)
+
+pub accepted-in-range : (f : InvesteeFields) (p : Profile) → profile_of f ≡ Ok p → ProfileInRange p
+accepted-in-range f p e =
+    let accepted = within-accepted f p e in
+    let within = accepted.0 in
+    let has = accepted.1 in
+    record {
+      id_from = subst (λ n. 1 ≤ n) (sym has.same_id) within.id_from;
+      id_to = subst (λ n. n ≤ last_id) (sym has.same_id) within.id_to;
+      sector_to = subst (λ n. n ≤ last_sector) (sym has.same_sector) within.sector_to;
+      days_to = subst (λ n. n ≤ most_days) (sym has.same_days) within.days_to;
+      figures_to = subst WithinLimits (sym has.same_figures) within.figures_to;
+    }

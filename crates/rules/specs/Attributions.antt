@@ -1,10 +1,9 @@
 -- What a rule says of an investee.
 use Rattle.std.specs.Prelude.{ℕ, ◌≤◌}
-use Rattle.rules.specs.declared.figures.Figures.{Figures}
 use Rattle.rules.specs.declared.investees.Profile.{Profile}
 use Rattle.rules.specs.declared.rule.Attribution.{Attribution}
 use Rattle.rules.specs.Figures.{WithinLimits}
-use Rattle.rules.specs.Investees.{financing_of}
+use Rattle.rules.specs.Investees.{financing_of, FinancingInRange}
 use Rattle.rules.specs.Tables.{Tables, BaseInRange}
 
 -- by its exposure over the year and its closing balance
@@ -15,6 +14,6 @@ attribution_of t x exposure closing = record {
 }
 
 -- what holds of every rule's answers
-pub record InRange (figures : Figures) (a : Attribution) : Type 0 where
-  pub base_in_range : WithinLimits figures → BaseInRange a.base
-  pub reason_in_range : a.reason ≤ 9
+pub record InRange (x : Profile) (exposure closing : ℕ) (a : Attribution) : Type 0 where
+  pub base_in_range : WithinLimits x.figures → BaseInRange a.base
+  pub reason_in_range : FinancingInRange (financing_of x exposure closing) → a.reason ≤ 9

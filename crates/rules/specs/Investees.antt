@@ -25,6 +25,10 @@ last_sector = 8
 abbrev pub most_days : ℕ
 most_days = 366
 
+-- the largest exposure to one investee, in wan, and so its largest closing balance
+abbrev pub most_exposure : ℕ
+most_exposure = 9000000
+
 -- the fields that are no kind and no size are within their ranges
 abbrev pub numbers_in_range : InvesteeFields → Bool
 numbers_in_range f =
@@ -45,6 +49,14 @@ profiled f None size = out_of_range
 -- the investee that the fields describe, or the refusal
 abbrev pub profile_of : InvesteeFields → Result Profile Fault
 profile_of f = profiled f (kind_numbered f.kind) (size_numbered f.size)
+
+-- every number of an investee is within its range
+pub record ProfileInRange (x : Profile) : Type 0 where
+  pub id_from : 1 ≤ x.id
+  pub id_to : x.id ≤ last_id
+  pub sector_to : x.sector ≤ last_sector
+  pub days_to : x.days ≤ most_days
+  pub figures_to : WithinLimits x.figures
 
 -- every field is within its range
 pub record WithinRanges (f : InvesteeFields) : Type 0 where
@@ -75,3 +87,9 @@ pub record Checked (f : InvesteeFields) (r : Result Profile Fault) : Type 0 wher
 -- how an investee is financed
 abbrev pub financing_of : Profile → ℕ → ℕ → Financing
 financing_of x exposure closing = record { kind = x.kind; size = x.size; days = x.days; exposure = exposure; closing = closing }
+
+-- days of a year, and an exposure and a closing balance that a book can hold
+pub record FinancingInRange (f : Financing) : Type 0 where
+  pub days_to : f.days ≤ most_days
+  pub exposure_to : f.exposure ≤ most_exposure
+  pub closing_to : f.closing ≤ most_exposure

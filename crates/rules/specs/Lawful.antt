@@ -50,7 +50,7 @@ national-reasons GeneralLoan size days exposure closing =
 national-reasons Bond size days exposure closing = lit≤ tt
 
 pub national-lawful : Lawful national_tables
-national-lawful = record { bases_in_range = national-bases; reasons_in_range = λ f. national-reasons f.kind f.size f.days f.exposure f.closing }
+national-lawful = record { bases_in_range = national-bases; reasons_in_range = λ f _. national-reasons f.kind f.size f.days f.exposure f.closing }
 
 pudong-bases : (kind : Kind) (f : Figures) → WithinLimits f → BaseInRange (pudong_bases kind f)
 pudong-bases Project f w = given-in-range f.investment w.investment
@@ -74,4 +74,4 @@ pudong-reasons GeneralLoan size days exposure closing =
 pudong-reasons Bond size days exposure closing = lit≤ tt
 
 pub pudong-lawful : Lawful pudong_tables
-pudong-lawful = record { bases_in_range = pudong-bases; reasons_in_range = λ f. pudong-reasons f.kind f.size f.days f.exposure f.closing }
+pudong-lawful = record { bases_in_range = pudong-bases; reasons_in_range = λ f _. pudong-reasons f.kind f.size f.days f.exposure f.closing }

@@ -15,6 +15,9 @@ pub const LAST_SECTOR: u64 = 8;
 // The most days that a year can have.
 pub const MOST_DAYS: u64 = 366;
 
+/// The largest exposure to one investee in a year, in wan, and so its largest closing balance: a book lets neither pass it.
+pub const MOST_EXPOSURE: u64 = 9_000_000;
+
 // The fields of an investee as a caller sends them: each number may be anything.
 #[derive(Clone, Copy, Debug, PartialEq, Eq)]
 pub struct InvesteeFields {

@@ -36,7 +36,7 @@ pub struct Attribution {
 // The two stand beside the investee: a book adds them up from its table of positions.
 pub fn attributed<R: Rule>(rule: &R, investee: Profile, exposure: u64, closing: u64) -> Attribution
     ensures value { result ≡ attribution_of (R.tables rule.now) investee exposure closing }
-    ensures range { InRange investee.figures result }
+    ensures range { InRange investee exposure closing result }
 {
     Attribution {
         base: rule.base(investee.kind, investee.figures),
