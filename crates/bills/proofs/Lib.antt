@@ -1,1 +1,3 @@
+pub mod Kept
+pub mod Lines
 pub mod Sofar

@@ -1,6 +1,6 @@
 -- A bill is a text of lines, each of them three numbers: row, quantity and grade of an item.
-use Rattle.std.specs.Prelude.{◌≡◌, ℕ, ◌+◌, cond, List, [], ◌∷◌, length, Ok, Err, vec_items, Result, Vec, ◌==◌, nat_lt, slice_index}
-use Rattle.std.specs.declared.alloc.Global.{Global}
+use Rattle.arrayvec.specs.ArrayVec.{ArrayVec}
+use Rattle.std.specs.Prelude.{ℕ, ◌+◌, cond, List, [], ◌∷◌, length, take, Ok, Err, Result, ◌==◌, nat_lt, slice_index}
 use Rattle.lines.specs.declared.fields.LineError.{LineError}
 use Rattle.lines.specs.Fields.{pieces, line_of}
 use Rattle.operations.specs.declared.items.Item.{Item}
@@ -32,7 +32,13 @@ items_of n (p ∷ q ∷ ps) = in_front n (item_in p) (items_of (n + 1) (q ∷ ps
 abbrev pub items_in : List ℕ → Result (List Item) Malformed
 items_in text = cond (nat_lt 65536 (length text)) (Err TooLong) (items_of 1 (pieces 10 text))
 
--- what reading gives is this answer
-abbrev pub Reads : Result (Vec Item Global) Malformed → Result (List Item) Malformed → Type 0
-Reads (Ok v) answer = answer ≡ Ok (vec_items v)
-Reads (Err m) answer = answer ≡ Err m
+-- ---- the same as a program holds them
+
+-- one more than a table may have
+abbrev pub most_held : ℕ
+most_held = 65
+
+-- the first items, as many as there is room for
+abbrev pub held : Result (List Item) Malformed → Result (ArrayVec Item) Malformed
+held (Ok xs) = Ok (record { items = take most_held xs })
+held (Err m) = Err m

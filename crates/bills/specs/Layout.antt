@@ -1,5 +1,5 @@
 -- What is printed for a bill: a line for each item and two for the totals, or one line that says why there are none.
-use Rattle.std.specs.Prelude.{ℕ, ◌+◌, cond, List, [], ◌∷◌, ◌++◌, Ok, Err, codes, decimal, Result, ◌==◌}
+use Rattle.std.specs.Prelude.{ℕ, ◌+◌, cond, List, [], ◌∷◌, ◌++◌, codes, decimal, ◌==◌}
 use Rattle.faults.specs.declared.Fault.{Fault}
 use Rattle.faults.specs.Refusals.{number_of}
 use Rattle.grading.specs.Hundredths.{two_decimals}
@@ -7,10 +7,10 @@ use Rattle.lines.specs.declared.fields.LineError.{LineError}
 use Rattle.lines.specs.declared.fields.LineError.TheVariants as line
 use Rattle.operations.specs.declared.items.Item.{Item}
 use Rattle.operations.specs.declared.items.Totals.{Totals}
-use Rattle.operations.specs.Tables.{worked_out, table_after}
-use Rattle.bills.specs.declared.reading.Malformed.{Malformed}
+use Rattle.bills.specs.declared.answer.Outcome.{Outcome}
+use Rattle.bills.specs.declared.answer.Outcome.TheVariants.{Statement, Refused, Malformed}
+use Rattle.bills.specs.declared.reading.Malformed as reading
 use Rattle.bills.specs.declared.reading.Malformed.TheVariants.{TooLong, Unended, Line}
-use Rattle.bills.specs.Bills.{items_in}
 
 -- a line of the text, with its line feed
 abbrev pub ended : List ℕ → List ℕ
@@ -55,23 +55,13 @@ line_message n line.TooLong = codes "line " ++ (decimal n ++ codes ": longer tha
 line_message n (line.Field i) = codes "line " ++ (decimal n ++ (codes ": the " ++ (field_name i ++ codes " is not a number of 1 to 13 digits without leading zeros")))
 line_message n line.Surplus = codes "line " ++ (decimal n ++ codes ": more than the three fields row, quantity and grade")
 
-abbrev pub message_of : Malformed → List ℕ
+abbrev pub message_of : reading.Malformed → List ℕ
 message_of TooLong = codes "the bill is longer than 65536 bytes"
 message_of (Unended n) = codes "line " ++ (decimal n ++ codes ": not ended by a line feed")
 message_of (Line n e) = line_message n e
 
--- what is printed of a table that was worked out
-abbrev pub outcome : Result Totals Fault → List Item → List ℕ
-outcome (Ok totals) items = statement_of items totals
-outcome (Err f) items = ended (refusal_line f)
-
-abbrev pub worked_text : List Item → List ℕ
-worked_text xs = outcome (worked_out xs) (table_after xs)
-
-abbrev pub bill_text : Result (List Item) Malformed → List ℕ
-bill_text (Ok xs) = worked_text xs
-bill_text (Err m) = ended (message_of m)
-
--- what is printed for a text
-abbrev pub answer_to : List ℕ → List ℕ
-answer_to text = bill_text (items_in text)
+-- what is printed for a bill
+abbrev pub outcome_text : Outcome → List ℕ
+outcome_text (Statement items totals) = statement_of items.items totals
+outcome_text (Refused f) = ended (refusal_line f)
+outcome_text (Malformed m) = ended (message_of m)

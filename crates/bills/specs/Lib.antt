@@ -1,2 +1,3 @@
 pub mod Bills
 pub mod Layout
+pub mod Outcomes

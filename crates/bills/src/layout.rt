@@ -1,24 +1,44 @@
 // What is printed for a bill.
-ghost use Rattle.std.specs.Prelude.{◌≡◌, IfOk, Some, string_bytes};
-ghost use Rattle.bills.specs.Layout.{item_line, cause_at, refusal_line, field_name, message_of};
+ghost use Rattle.std.specs.Prelude.{◌≡◌, Some};
+ghost use Rattle.std.specs.Fmt.{WritesOnOk};
+ghost use Rattle.bills.specs.Layout.{item_line, item_lines, cause_at, field_name, message_of, outcome_text};
 
+use crate::answer::Outcome;
 use crate::reading::Malformed;
-use faults::Fault;
+use grading::hundredths::Hundredths;
 use lines::fields::LineError;
 use operations::items::Item;
-use std::alloc::{AllocError, Global};
 use std::error::Error;
 use std::fmt;
 
-// The line of one item, without its line feed: no Display, which would need a type for this one line.
-pub fn item_line(heap: Global, number: usize, item: Item) -> Result<String, AllocError>
-    ensures { IfOk result (λ s. string_bytes s ≡ item_line number item) }
+// An item with its number in the bill, from 1: one line, without its line feed.
+#[derive(Clone, Copy)]
+struct Numbered(usize, Item);
+
+impl fmt::Display for Numbered {
+    ghost output = { λ n. Some (item_line n.0 n.1) };
+
+    fn fmt<W: fmt::Write>(&self, f: &mut fmt::Formatter<W>) -> fmt::Result {
+        let Numbered(number, item) = *self;
+        let row = item.activity.row;
+        let quantity = item.activity.quantity;
+        let grade = item.grade;
+        let kilograms = item.kilograms;
+        write!(
+            f,
+            "item {number}: row {row}, quantity {quantity}, grade {grade}: {kilograms} kg"
+        )
+    }
+}
+
+fn write_items<W: fmt::Write>(f: &mut fmt::Formatter<W>, items: &[Item]) -> fmt::Result
+    ensures { WritesOnOk W.write_str_gives f.old result (item_lines 1 items.now) f.new }
 {
-    let row = item.activity.row;
-    let quantity = item.activity.quantity;
-    let grade = item.grade;
-    let kilograms = item.kilograms;
-    format!(in heap; "item {number}: row {row}, quantity {quantity}, grade {grade}: {kilograms} kg")
+    for (i, item) in items.iter().enumerate() {
+        let line = Numbered(i + 1, *item);
+        writeln!(f, "{line}")?;
+    }
+    Ok(())
 }
 
 // What a refusal of a table says of the item at a place, from 1, or of the whole table at place 0.
@@ -37,15 +57,6 @@ impl fmt::Display for Cause {
             ),
         }
     }
-}
-
-// The line of a refusal, without its line feed: no Display, since a fault prints in words of its own already.
-pub fn refusal_line(heap: Global, fault: Fault) -> Result<String, AllocError>
-    ensures { IfOk result (λ s. string_bytes s ≡ refusal_line fault) }
-{
-    let number = fault.refusal.number();
-    let cause = Cause(fault.place);
-    format!(in heap; "refusal {number}{cause}")
 }
 
 // What a field of an item's line is, from 0.
@@ -86,3 +97,26 @@ impl fmt::Display for Malformed {
 }
 
 impl Error for Malformed {}
+
+/// A line for each item and two for the totals, or the one line that says why there are none; each ends with a line feed.
+impl fmt::Display for Outcome {
+    ghost output = { λ o. Some (outcome_text o) };
+
+    fn fmt<W: fmt::Write>(&self, f: &mut fmt::Formatter<W>) -> fmt::Result {
+        match self {
+            Outcome::Statement(items, totals) => {
+                write_items(f, items.as_slice())?;
+                let kilograms = totals.kilograms;
+                let grade = Hundredths(totals.grade);
+                writeln!(f, "total: {kilograms} kg")?;
+                writeln!(f, "mean grade: {grade}")
+            }
+            Outcome::Refused(fault) => {
+                let number = fault.refusal.number();
+                let cause = Cause(fault.place);
+                writeln!(f, "refusal {number}{cause}")
+            }
+            Outcome::Malformed(malformed) => writeln!(f, "{malformed}"),
+        }
+    }
+}

@@ -1,6 +1,8 @@
-// A lender's bill of its own operations, as text: read, worked out and laid out.
+// A lender's bill of its own operations: read, worked out, and printed.
 #![tactic(auto)]
 
 pub mod answer;
-pub mod layout;
+mod layout;
 pub mod reading;
+#[cfg(test)]
+mod tests;

@@ -1,65 +1,83 @@
 // The items of a bill.
-ghost use Rattle.std.specs.Prelude.{◌≡◌, ◌≤◌, length, IfOk};
+ghost use Rattle.std.specs.Prelude.{◌≡◌, ◌≤◌, [], ◌∷◌, ◌++◌, length, take};
 ghost use Rattle.lines.specs.Fields.{pieces};
-ghost use Rattle.bills.specs.Bills.{item_in, items_of, items_in, Reads};
+ghost use Rattle.bills.specs.Bills.{item_in, items_of, items_in, most_held, held};
 
+use arrayvec::ArrayVec;
 use lines::fields::LineError;
 use lines::line::number_line;
 use lines::pieces::Pieces;
 use operations::items::Item;
-use std::alloc::{AllocError, Global};
+use operations::work::MOST_ITEMS;
 
-// The most bytes of a bill.
+/// The most bytes of a bill.
 pub const MOST_BYTES: usize = 65_536;
 
-// Why a text is not a bill.
+/// One item more than a table may have: it tells a table that is too long, and no further item matters.
+pub const MOST_HELD: usize = MOST_ITEMS + 1;
+
+/// The items of a bill in their order, as far as they matter.
+pub type Items = ArrayVec<Item, MOST_HELD>;
+
+/// Why a text is not a bill. Lines are counted from 1.
 #[derive(Clone, Copy, Debug, PartialEq, Eq)]
 pub enum Malformed {
+    /// It has more than 65,536 bytes.
     TooLong,
-    // The line of this number, from 1, does not end with a line feed.
+    /// The line of this number does not end with a line feed.
     Unended(usize),
-    // The line of this number, from 1, is not three numbers.
+    /// The line of this number is not three numbers.
     Line(usize, LineError),
 }
 
 // The item of a line: row, quantity, grade.
-pub fn read_item(line: &[u8]) -> Result<Item, LineError>
+fn read_item(line: &[u8]) -> Result<Item, LineError>
     ensures { result ≡ item_in line.now }
 {
     let [row, quantity, grade] = number_line::<3>(line)?;
     Ok(Item::new(row, quantity, grade))
 }
 
-// A Result in a Result: want of memory is never mixed with what is said of the bill.
-fn read_lines(heap: Global, text: &[u8]) -> Result<Result<Vec<Item>, Malformed>, AllocError>
-    requires { length text.now ≤ 65536 }
-    ensures { IfOk result (λ a. Reads a (items_of 1 (pieces 10 text.now))) }
+// Adds an item at the end, if there is room.
+fn keep(items: &mut Items, item: Item)
+    ensures { items.new.items ≡ take most_held (items.old.items ++ item ∷ []) }
 {
-    let mut items = Vec::new(heap);
+    if !items.is_full() {
+        items.push(item);
+    }
+}
+
+// Every line is read, also where no further item is kept: a line that is wrong is told before that there are too many.
+fn read_lines(text: &[u8]) -> Result<Items, Malformed>
+    requires { length text.now ≤ 65536 }
+    ensures { result ≡ held (items_of 1 (pieces 10 text.now)) }
+{
+    let mut items = Items::new();
     let mut lines = Pieces::new(text, b'\n');
+    let mut number = 1;
     // A `while let` and no `for`: its body asks `lines.rest`, which tells an unended line from the end.
     while let Some(line) = lines.next() {
         if lines.rest.is_none() {
             if line.is_empty() {
-                return Ok(Ok(items));
+                return Ok(items);
             }
-            return Ok(Err(Malformed::Unended(items.len() + 1)));
+            return Err(Malformed::Unended(number));
         }
         match read_item(line) {
-            Ok(item) => items.push(item)?,
-            Err(error) => return Ok(Err(Malformed::Line(items.len() + 1, error))),
+            Ok(item) => keep(&mut items, item),
+            Err(error) => return Err(Malformed::Line(number, error)),
         }
+        number += 1;
     }
-    Ok(Ok(items))
+    Ok(items)
 }
 
-// The items of a bill, line by line from the top; or why the text is none.
-// A Result in a Result: want of memory is never mixed with what is said of the bill.
-pub fn read_bill(heap: Global, text: &[u8]) -> Result<Result<Vec<Item>, Malformed>, AllocError>
-    ensures { IfOk result (λ a. Reads a (items_in text.now)) }
+/// The items of a bill, line by line from the top, as far as they matter; or why the text is none.
+pub fn read_bill(text: &[u8]) -> Result<Items, Malformed>
+    ensures { result ≡ held (items_in text.now) }
 {
     if text.len() > MOST_BYTES {
-        return Ok(Err(Malformed::TooLong));
+        return Err(Malformed::TooLong);
     }
-    read_lines(heap, text)
+    read_lines(text)
 }

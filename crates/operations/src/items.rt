@@ -9,7 +9,7 @@ use grading::Graded;
 pub const MOST_KILOGRAMS: u64 = 1_000_000_000_000;
 
 // An activity and the grade of its data, as a caller sends them: the numbers may be anything.
-#[derive(Clone, Copy, Debug, PartialEq, Eq)]
+#[derive(Clone, Copy, Debug, Default, PartialEq, Eq)]
 pub struct Item {
     pub activity: Activity,
     pub grade: u64,

@@ -12,6 +12,5 @@ fn main(rt: HostRuntime) -> io::Result<()> {
     rt.stdin()
         .take(MOST_BYTES as u64 + 1)
         .read_to_end(&mut bill)?;
-    let text = answer(rt.alloc(), bill.as_slice())?;
-    print!(rt; "{text}")
+    rt.print(answer(bill.as_slice()))
 }
