@@ -1,10 +1,11 @@
--- What two rules say of an investee, as the bytes of a line.
+-- What two guides answer for an investee, and the line that is printed of it.
 use Rattle.std.specs.Prelude.{ℕ, List, ◌++◌, Ok, Err, codes, decimal, Result}
+use Rattle.comparison.specs.declared.Comparison.{Comparison}
+use Rattle.comparison.specs.declared.Facts.{Facts}
 use Rattle.faults.specs.Refusals.{number_of}
 use Rattle.faults.specs.declared.Refusal.{Refusal}
 use Rattle.rules.specs.declared.figures.Base.{Base}
 use Rattle.rules.specs.declared.figures.Base.TheVariants.{Amount, Whole}
-use Rattle.rules.specs.declared.investees.Profile.{Profile}
 use Rattle.rules.specs.declared.rule.Attribution.{Attribution}
 use Rattle.rules.specs.Attributions.{attribution_of}
 use Rattle.rules.specs.Kinds.{kind_number, size_number}
@@ -17,7 +18,7 @@ refusal_text number = codes "refuses with " ++ decimal number
 abbrev pub whole_text : List ℕ
 whole_text = codes "takes the whole"
 
--- what exposures are divided by, or the refusal's number
+-- a rule's base, or the refusal's number
 abbrev pub base_text : Result Base Refusal → List ℕ
 base_text (Ok (Amount n)) = codes "divides by " ++ decimal n
 base_text (Ok Whole) = whole_text
@@ -32,14 +33,20 @@ numbers_text id kind size days exposure closing =
     ++ (decimal days ++ (codes ", exposure " ++ (decimal exposure ++ (codes ", closing " ++ decimal closing)))))))))
 
 -- an investee by its numbers
-abbrev pub facts_text : Profile → ℕ → ℕ → List ℕ
-facts_text x exposure closing = numbers_text x.id (kind_number x.kind) (size_number x.size) x.days exposure closing
+abbrev pub facts_text : Facts → List ℕ
+facts_text x = numbers_text x.investee.id (kind_number x.investee.kind) (size_number x.investee.size) x.investee.days x.exposure x.closing
 
 abbrev pub joined_text : List ℕ → List ℕ → List ℕ → List ℕ
 joined_text facts national pudong = facts ++ (codes "; National " ++ (national ++ (codes "; Pudong " ++ pudong)))
 
--- the investee's numbers, then what each guide says
-abbrev pub line_text : Profile → ℕ → ℕ → List ℕ
-line_text x exposure closing =
-    joined_text (facts_text x exposure closing)
-    (answer_text (attribution_of national_tables x exposure closing)) (answer_text (attribution_of pudong_tables x exposure closing))
+-- the investee's numbers, then what each guide answers
+abbrev pub comparison_text : Comparison → List ℕ
+comparison_text c = joined_text (facts_text c.facts) (answer_text c.national) (answer_text c.pudong)
+
+-- what each guide answers for an investee
+abbrev pub comparison_of : Facts → Comparison
+comparison_of x = record {
+  facts = x;
+  national = attribution_of national_tables x.investee x.exposure x.closing;
+  pudong = attribution_of pudong_tables x.investee x.exposure x.closing;
+}

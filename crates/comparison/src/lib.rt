@@ -1,22 +1,17 @@
-// What both guides say of an investee, as a line of text.
+// What both guides say of an investee, in a line.
 #![tactic(auto)]
 
-ghost use Rattle.std.specs.Prelude.{◌≡◌, IfOk, string_bytes};
-ghost use Rattle.comparison.specs.Lines.{base_text, answer_text, facts_text, line_text};
+ghost use Rattle.std.specs.Prelude.{◌≡◌};
+ghost use Rattle.comparison.specs.Lines.{comparison_of};
 
-use faults::Refusal;
-use rules::figures::Base;
 use rules::investees::Profile;
 use rules::national::National;
 use rules::pudong::Pudong;
 use rules::rule::{Attribution, attributed};
-use std::alloc::{AllocError, Global};
 
 mod texts;
 
-use crate::texts::{Answer, Divisor, Line};
-
-// An investee with its exposure over the year and its closing balance.
+/// An investee with its exposure over the year and its closing balance, in wan. It prints its numbers.
 #[derive(Clone, Copy, Debug, PartialEq, Eq)]
 pub struct Facts {
     pub investee: Profile,
@@ -24,45 +19,26 @@ pub struct Facts {
     pub closing: u64,
 }
 
-// Each function promises the text of its type, so that no caller needs the contract of a `Display`. When memory is wanting is
-// left open.
-
-// What exposures are divided by, or the refusal's number.
-pub fn base_text(heap: Global, base: Result<Base, Refusal>) -> Result<String, AllocError>
-    ensures { IfOk result (λ s. string_bytes s ≡ base_text base) }
-{
-    Divisor(base).to_string(heap)
+/// An investee's facts, with what the guides of the People's Bank and of Pudong answer. It prints them in one line.
+#[derive(Clone, Copy)]
+pub struct Comparison {
+    pub facts: Facts,
+    pub national: Attribution,
+    pub pudong: Attribution,
 }
 
-// What a rule says of an investee.
-pub fn answer_text(heap: Global, answer: Attribution) -> Result<String, AllocError>
-    ensures { IfOk result (λ s. string_bytes s ≡ answer_text answer) }
-{
-    Answer(answer).to_string(heap)
-}
-
-// An investee by its numbers.
-pub fn facts_text(heap: Global, facts: Facts) -> Result<String, AllocError>
-    ensures { IfOk result (λ s. string_bytes s ≡ facts_text facts.investee facts.exposure facts.closing) }
-{
-    facts.to_string(heap)
-}
-
-// The investee's numbers, then what the guides of the People's Bank and of Pudong say of it.
-pub fn line(heap: Global, facts: Facts) -> Result<String, AllocError>
-    ensures { IfOk result (λ s. string_bytes s ≡ line_text facts.investee facts.exposure facts.closing) }
+/// What both guides answer for an investee.
+pub fn compared(facts: Facts) -> Comparison
+    ensures { result ≡ comparison_of facts }
 {
     let Facts {
         investee,
         exposure,
         closing,
     } = facts;
-    let national = attributed(&National, investee, exposure, closing);
-    let pudong = attributed(&Pudong, investee, exposure, closing);
-    Line {
+    Comparison {
         facts,
-        national: Answer(national),
-        pudong: Answer(pudong),
+        national: attributed(&National, investee, exposure, closing),
+        pudong: attributed(&Pudong, investee, exposure, closing),
     }
-    .to_string(heap)
 }

@@ -1,19 +1,19 @@
 // What is printed of an investee and of the guides' answers.
 ghost use Rattle.std.specs.Prelude.{Some};
-ghost use Rattle.comparison.specs.Lines.{base_text, answer_text, facts_text, joined_text};
+ghost use Rattle.comparison.specs.Lines.{base_text, answer_text, facts_text, comparison_text};
 
-use crate::Facts;
+use crate::{Comparison, Facts};
 use faults::Refusal;
 use rules::figures::Base;
 use rules::rule::Attribution;
 use std::fmt;
 
-// What exposures are divided by, or the refusal.
+// What a rule takes as base, or its refusal.
 #[derive(Clone, Copy)]
-pub(crate) struct Divisor(pub(crate) Result<Base, Refusal>);
+struct BaseWords(Result<Base, Refusal>);
 
-impl fmt::Display for Divisor {
-    ghost output = { λ d. Some (base_text d.0) };
+impl fmt::Display for BaseWords {
+    ghost output = { λ b. Some (base_text b.0) };
 
     fn fmt<W: fmt::Write>(&self, f: &mut fmt::Formatter<W>) -> fmt::Result {
         match self.0 {
@@ -27,22 +27,23 @@ impl fmt::Display for Divisor {
     }
 }
 
-// What a rule says of an investee.
+// What a rule answers for an investee.
 #[derive(Clone, Copy)]
-pub(crate) struct Answer(pub(crate) Attribution);
+struct AnswerWords(Attribution);
 
-impl fmt::Display for Answer {
+impl fmt::Display for AnswerWords {
     ghost output = { λ a. Some (answer_text a.0) };
 
     fn fmt<W: fmt::Write>(&self, f: &mut fmt::Formatter<W>) -> fmt::Result {
-        let base = Divisor(self.0.base);
+        let base = BaseWords(self.0.base);
         let reason = self.0.reason;
         write!(f, "{base}, reason {reason}")
     }
 }
 
+/// An investee by its numbers.
 impl fmt::Display for Facts {
-    ghost output = { λ x. Some (facts_text x.investee x.exposure x.closing) };
+    ghost output = { λ x. Some (facts_text x) };
 
     fn fmt<W: fmt::Write>(&self, f: &mut fmt::Formatter<W>) -> fmt::Result {
         let Facts {
@@ -61,23 +62,14 @@ impl fmt::Display for Facts {
     }
 }
 
-// An investee's numbers, then what both guides answered.
-#[derive(Clone, Copy)]
-pub(crate) struct Line {
-    pub(crate) facts: Facts,
-    pub(crate) national: Answer,
-    pub(crate) pudong: Answer,
-}
-
-impl fmt::Display for Line {
-    ghost output = { λ l. Some (joined_text (facts_text l.facts.investee l.facts.exposure l.facts.closing) (answer_text l.national.0) (answer_text l.pudong.0)) };
+/// The investee's numbers, then what each guide answers.
+impl fmt::Display for Comparison {
+    ghost output = { λ c. Some (comparison_text c) };
 
     fn fmt<W: fmt::Write>(&self, f: &mut fmt::Formatter<W>) -> fmt::Result {
-        let Line {
-            facts,
-            national,
-            pudong,
-        } = *self;
+        let facts = self.facts;
+        let national = AnswerWords(self.national);
+        let pudong = AnswerWords(self.pudong);
         write!(f, "{facts}; National {national}; Pudong {pudong}")
     }
 }

@@ -4,7 +4,7 @@
 ghost use Rattle.std.specs.Prelude.{◌≡◌};
 ghost use Rattle.guides.specs.Rows.{fields_of};
 
-use comparison::{Facts, line};
+use comparison::{Facts, compared};
 use rules::figures::Figures;
 use rules::investees::InvesteeFields;
 use std::io;
@@ -199,7 +199,7 @@ fn main(rt: HostRuntime) -> io::Result<()> {
                     exposure: row.exposure,
                     closing: row.closing,
                 };
-                rt.println(line(rt.alloc(), facts)?)?
+                rt.println(compared(facts))?
             }
             Err(fault) => {
                 let id = row.id;
