@@ -1,7 +1,6 @@
 // A year of a small book under the People's Bank guide: each call with its answer.
 #![tactic(auto)]
 
-use accounts::answer_text;
 use book::book::Book;
 use book::calls::Call;
 use either::{Either, Left, Right};
@@ -116,8 +115,7 @@ impl Year<'_> {
         let mut answers = vec![in self.rt.alloc(); Answer::Done; calls.len()]?;
         self.book.run(&calls, &mut answers);
         for (label, answer) in labels.iter().zip(answers.iter()) {
-            let text = answer_text(self.rt.alloc(), *answer)?;
-            println!(self.rt; "{label}: {text}")?;
+            println!(self.rt; "{label}: {answer}")?;
         }
         Ok(())
     }
