@@ -17,6 +17,7 @@ pub mod UnderRule
 pub mod Covers
 pub mod EveryRun
 pub mod Somebody
+pub mod Listed
 pub mod Due
 pub mod Exposures
 pub mod Runs

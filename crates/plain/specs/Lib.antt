@@ -25,4 +25,5 @@ pub mod Due
 pub mod WorkedYear
 pub mod WorkedKinds
 pub mod Told
+pub mod Listed
 pub mod Layout

@@ -6,6 +6,7 @@ ghost use Rattle.plain.specs.EachCall.{EachCallChangesWhatItNames};
 ghost use Rattle.plain.specs.EveryRun.{EveryRunKeepsEveryKilogram};
 ghost use Rattle.plain.specs.Kept.{KeptByEachCall};
 ghost use Rattle.plain.specs.Kilograms.{TotalIsRoundedOnce};
+ghost use Rattle.plain.specs.Listed.{ListedAsAnswered};
 ghost use Rattle.plain.specs.ShutOut.{SimplerAnswersShutOut};
 ghost use Rattle.plain.specs.Worked.{WorkedCases};
 ghost use Rattle.plain.specs.WorkedKinds.{WorkedKinds};
@@ -58,6 +59,11 @@ pub fn worked_year()
 /// A book with an investee of each kind, and every figure that it answers.
 pub fn worked_kinds()
     ensures { WorkedKinds }
+{}
+
+/// The accounts and the sheets that a page is made of are what the book's readings answer, one by one.
+pub fn listed_as_answered()
+    ensures { ListedAsAnswered }
 {}
 
 // Each call changes what it names, and nothing else.
