@@ -37,10 +37,11 @@ calls =
     ∷ opens 14 4 2 0 (kg 100 4)
     ∷ opens 15 5 1 500 (kg 4000 1)
     ∷ opens 16 6 1 500 (kg 8000 5)
-    -- the project is restated after its reduction, and the reduction of 12 is 0
+    -- the project is restated after its reduction, the reduction of 12 is 0, and the second of 15 replaces the first
     ∷ reduce 11 (kg 120 4)
     ∷ restate 11 (kg 1200 2)
     ∷ reduce 12 (kg 0 1)
+    ∷ reduce 15 (kg 900 2)
     ∷ reduce 13 (kg 500 1)
     ∷ reduce 15 (kg 480 5)
     -- branch, id, month, balance
