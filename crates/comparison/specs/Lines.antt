@@ -11,6 +11,7 @@ use Rattle.rules.specs.Attributions.{attribution_of}
 use Rattle.rules.specs.Kinds.{kind_number, size_number}
 use Rattle.rules.specs.National.{national_tables}
 use Rattle.rules.specs.Pudong.{pudong_tables}
+use Rattle.rules.specs.Seen.{plain_profile}
 
 abbrev pub refusal_text : ℕ → List ℕ
 refusal_text number = codes "refuses with " ++ decimal number
@@ -47,6 +48,6 @@ comparison_text c = joined_text (facts_text c.facts) (answer_text c.national) (a
 abbrev pub comparison_of : Facts → Comparison
 comparison_of x = record {
   facts = x;
-  national = attribution_of national_tables x.investee x.exposure x.closing;
-  pudong = attribution_of pudong_tables x.investee x.exposure x.closing;
+  national = attribution_of national_tables (plain_profile x.investee) x.exposure x.closing;
+  pudong = attribution_of pudong_tables (plain_profile x.investee) x.exposure x.closing;
 }

@@ -82,6 +82,19 @@ mod tests {
             grade: 2,
         };
         assert_eq!(rt; less_a_tonne(5_000, 100), Ok(reading));
+        let most = Reading {
+            kilograms: 999_999_999_000,
+            grade: 2,
+        };
+        assert_eq!(rt; less_a_tonne(1_000_000_000_000, 100), Ok(most));
+        assert_eq!(rt;
+            less_a_tonne(1_000_000_000_001, 100),
+            Err(found(Refusal::FigureOutOfRange, 101))
+        );
+        assert_eq!(rt;
+            less_a_tonne(1_000_000_000_001, 101),
+            Err(found(Refusal::Custom(7_001), 101))
+        );
         assert_eq!(rt;
             less_a_tonne(5_000, 101),
             Err(found(Refusal::Custom(7_001), 101))
@@ -90,6 +103,11 @@ mod tests {
             less_a_tonne(u64::MAX, 0),
             Err(found(Refusal::FigureOutOfRange, 101))
         );
+        let none = Reading {
+            kilograms: 0,
+            grade: 2,
+        };
+        assert_eq!(rt; less_a_tonne(1_000, 0), Ok(none));
         assert_eq!(rt;
             less_a_tonne(999, 0),
             Err(found(Refusal::OffsetsAboveReading, 6))

@@ -8,8 +8,7 @@ use Rattle.rules.specs.Months.{months}
 use Rattle.rules.specs.Tables.{Tables}
 use Rattle.rules.specs.declared.figures.Base.{Base}
 use Rattle.rules.specs.declared.investees.InvesteeFields.{InvesteeFields}
-use Rattle.rules.specs.Investees.{profile_of}
-use Rattle.rules.specs.declared.investees.Profile.{Profile}
+use Rattle.rules.specs.Investees.{PlainProfile, profile_of}
 use Rattle.sources.specs.declared.reading.Reading.{Reading}
 use Rattle.plain.specs.Branches.{Branch}
 use Rattle.plain.specs.Changes.{posted, amended, changed}
@@ -29,7 +28,7 @@ pub if_open-none : (o : Option PlainInvestee) (next : PlainInvestee → Option F
 if_open-none None next e = absurd cc
 if_open-none (Some x) next e = (x, refl, e)
 
-pub if_in_range-none : (o : Result Profile Fault) (next : Profile → Option Fault) → if_in_range o next ≡ None → (x : Profile) × (o ≡ Ok x) × (next x ≡ None)
+pub if_in_range-none : (o : Result PlainProfile Fault) (next : PlainProfile → Option Fault) → if_in_range o next ≡ None → (x : PlainProfile) × (o ≡ Ok x) × (next x ≡ None)
 if_in_range-none (Ok x) next e = (x, refl, e)
 if_in_range-none (Err f) next e = absurd cc
 
@@ -63,7 +62,7 @@ entry-within b m v e = grind (arith, nat_tests)
 -- ---- the calls
 
 pub record Opened (t : Tables) (p : PlainBook) (fields : InvesteeFields) (meaning : Meaning) : Type 0 where
-  pub profile : Profile
+  pub profile : PlainProfile
   pub reading : Reading
   pub base : Base
   pub in_range : profile_of fields ≡ Ok profile

@@ -9,7 +9,7 @@ use Rattle.std.proofs.lemmas.Bool.{both_ways, cond_both, eq-eqb, eqb-true}
 use Rattle.faults.specs.declared.Fault.{Fault}
 use Rattle.rules.specs.Months.{months}
 use Rattle.rules.specs.Tables.{Tables}
-use Rattle.rules.specs.declared.investees.Profile.{Profile}
+use Rattle.rules.specs.Investees.{PlainProfile}
 use Rattle.sources.specs.declared.reading.Reading.{Reading}
 use Rattle.plain.specs.Changes.{opened, restated, reduced_by, read_into, added, with_position, amended, changed}
 use Rattle.plain.specs.Exposures.{is_bond, closing_of, positions_on}
@@ -83,7 +83,7 @@ closing x m e bond = grind (arith, nat_tests)
 pub bonds-at-first : KeptOfBonds empty
 bonds-at-first = record { posted_at_closing_only = tt }
 
-bonds-opened : (p : PlainBook) (x : Profile) (r : Reading) → KeptByEveryRun p → KeptOfBonds p → is_open x.id p ≡ false → KeptOfBonds (with_investees p (p.investees ++ opened x r ∷ []))
+bonds-opened : (p : PlainBook) (x : PlainProfile) (r : Reading) → KeptByEveryRun p → KeptOfBonds p → is_open x.id p ≡ false → KeptOfBonds (with_investees p (p.investees ++ opened x r ∷ []))
 bonds-opened p x r kept ok is-new = record {
   posted_at_closing_only = All-push (λ y. AtClosing y (positions_on (id_of y) p.positions)) p.investees (opened x r) ok.posted_at_closing_only
       (λ e. subst (AllByRecursion PostedAtClosingOnly) (sym (no-positions x.id p.positions (no-position-yet x.id p kept is-new))) tt);
@@ -120,7 +120,7 @@ bonds-entered t p b id m v was qs kept ok entry long more others = record {
 bonds-changed : (t : Tables) (p : PlainBook) (c : Step) → KeptByEveryRun p → KeptOfBonds p → declined t p c ≡ None → KeptOfBonds (changed p c)
 bonds-changed t p (enter fields meaning) kept ok e =
     let o = opened-none t p fields meaning e in
-    subst (λ xs. KeptOfBonds (with_investees p xs)) (sym (ap₂ (λ (x : Result Profile Fault) (r : Meaning). added x r p.investees) o.in_range o.read))
+    subst (λ xs. KeptOfBonds (with_investees p xs)) (sym (ap₂ (λ (x : Result PlainProfile Fault) (r : Meaning). added x r p.investees) o.in_range o.read))
     (bonds-opened p o.profile o.reading kept ok o.is-new)
 bonds-changed t p (restate id meaning) kept ok e = bonds-read p id (read_into restated meaning) (same-profile restated (λ r x. refl) meaning) ok
 bonds-changed t p (reduce id meaning) kept ok e = bonds-read p id (read_into reduced_by meaning) (same-profile reduced_by (λ r x. refl) meaning) ok

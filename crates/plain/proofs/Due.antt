@@ -9,13 +9,12 @@ use Rattle.faults.specs.Refusals.{fault}
 use Rattle.faults.specs.declared.Fault.{Fault}
 use Rattle.faults.specs.declared.Refusal.{Refusal}
 use Rattle.faults.specs.declared.Refusal.TheVariants.{KindNotCovered, FigureNotGiven, FieldOutOfRange, ReadingBelowZero, AlreadyOpen, InvesteesFull, NotOpen, EntryOutOfRange, BondOutsideClosingMonth, MonthAlreadyPosted, MonthNotPosted, PositionsFull, ExposureTooLarge, BondAboveDenominator}
-use Rattle.rules.specs.Investees.{profile_of, WithinRanges, SameNumbers}
+use Rattle.rules.specs.Investees.{PlainProfile, profile_of, WithinRanges, SameNumbers}
 use Rattle.rules.specs.Kinds.{kind_number, kind_numbered}
 use Rattle.rules.specs.Months.{months}
 use Rattle.rules.specs.Tables.{Tables, BaseInRange}
 use Rattle.rules.specs.declared.figures.Base.{Base}
 use Rattle.rules.specs.declared.investees.InvesteeFields.{InvesteeFields}
-use Rattle.rules.specs.declared.investees.Profile.{Profile}
 use Rattle.rules.specs.declared.kinds.Kind.{Kind}
 use Rattle.rules.specs.declared.kinds.Kind.TheVariants.{Project, PropertyDevelopment, PropertyPurchase, Vehicle, GeneralLoan, Bond}
 use Rattle.rules.proofs.Ranges.{accepted-in-range, accepted-within, within-or-refused}
@@ -138,7 +137,7 @@ kind-of-number Vehicle = refl
 kind-of-number GeneralLoan = refl
 kind-of-number Bond = refl
 
-due-fields : (f : InvesteeFields) (next : Profile → Option Fault) (later : List Case) → ((x : Profile) → profile_of f ≡ Ok x → SameNumbers f x → FirstDue later (next x))
+due-fields : (f : InvesteeFields) (next : PlainProfile → Option Fault) (later : List Case) → ((x : PlainProfile) → profile_of f ≡ Ok x → SameNumbers f x → FirstDue later (next x))
     → FirstDue ((FieldOutOfRange due_if (WithinRanges f → ⊥)) ∷ later) (if_in_range (profile_of f) next)
 unfolding FirstDue
 due-fields f next later rest =
@@ -169,13 +168,13 @@ due-based (Err e) Refuses next later range to from rest = by range
     )
 
 -- the rule refuses the fields just where its table refuses the profile
-rule-refuses : (t : Tables) (f : InvesteeFields) (x : Profile) (refusal : Refusal) → SameNumbers f x → RuleRefuses t f refusal → t.bases x.kind x.figures ≡ Err refusal
+rule-refuses : (t : Tables) (f : InvesteeFields) (x : PlainProfile) (refusal : Refusal) → SameNumbers f x → RuleRefuses t f refusal → t.bases x.kind x.figures ≡ Err refusal
 rule-refuses t f x refusal has h =
     let one : Some h.0 ≡ Some x.kind = sym (kind-of-number h.0) ∙ ap kind_numbered (h.1 ∙ sym has.same_kind) ∙ kind-of-number x.kind in
     let kind : h.0 ≡ x.kind = cc in
     ap₂ t.bases (sym kind) has.same_figures ∙ h.2
 
-refuses-rule : (t : Tables) (f : InvesteeFields) (x : Profile) (refusal : Refusal) → SameNumbers f x → t.bases x.kind x.figures ≡ Err refusal → RuleRefuses t f refusal
+refuses-rule : (t : Tables) (f : InvesteeFields) (x : PlainProfile) (refusal : Refusal) → SameNumbers f x → t.bases x.kind x.figures ≡ Err refusal → RuleRefuses t f refusal
 refuses-rule t f x refusal has e = (x.kind, has.same_kind, ap (t.bases x.kind) (sym has.same_figures) ∙ e)
 
 -- ---- the calls

@@ -10,7 +10,7 @@ use Rattle.faults.specs.declared.Fault.{Fault}
 use Rattle.rules.specs.Months.{months}
 use Rattle.rules.specs.Tables.{Tables}
 use Rattle.rules.specs.declared.investees.InvesteeFields.{InvesteeFields}
-use Rattle.rules.specs.declared.investees.Profile.{Profile}
+use Rattle.rules.specs.Investees.{PlainProfile}
 use Rattle.rules.proofs.Ranges.{within-accepted}
 use Rattle.sources.specs.declared.reading.Reading.{Reading}
 use Rattle.plain.specs.declared.answers.Answer.{Answer}
@@ -81,7 +81,7 @@ or-none (Some x) = refl
 
 -- ---- openings
 
-module _ (p : PlainBook) (x : Profile) (r : Reading) where
+module _ (p : PlainBook) (x : PlainProfile) (r : Reading) where
   found-last : is_open x.id p ≡ false → investee_of x.id (with_investees p (p.investees ++ opened x r ∷ [])) ≡ Some (opened x r)
   found-last is-new =
       first-push (has_id x.id) p.investees (opened x r)
@@ -98,7 +98,7 @@ enters t p fields meaning e =
     let o = opened-none t p fields meaning e in
     let numbers = (within-accepted fields o.profile o.in_range).1 in
     let made : with_investees p (p.investees ++ opened o.profile o.reading ∷ []) ≡ changed p (enter fields meaning) =
-    sym (ap₂ (λ (x : Result Profile Fault) (r : Meaning). with_investees p (added x r p.investees)) o.in_range o.read) in
+    sym (ap₂ (λ (x : Result PlainProfile Fault) (r : Meaning). with_investees p (added x r p.investees)) o.in_range o.read) in
     subst (Enters fields meaning p) made (record {
       investee = (
         o.reading,
@@ -134,7 +134,7 @@ reads Becomes change becomes same p id meaning r x read found = record {
 }
   where
     same_id : (y : PlainInvestee) → id_of (read_into change meaning y) ≡ id_of y
-    same_id y = ap (λ (z : Profile). z.id) (same-profile change same meaning y)
+    same_id y = ap (λ (z : PlainProfile). z.id) (same-profile change same meaning y)
 
     apart : (j : ℕ) → j ≢ id → (y : PlainInvestee) → has_id id y ≡ true → has_id j y ≡ false
     apart j ne y e = grind (arith, nat_tests)

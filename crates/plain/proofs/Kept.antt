@@ -7,9 +7,8 @@ use Rattle.std.proofs.lemmas.Int.{ints}
 use Rattle.std.proofs.lemmas.Bool.Decides.{nat_tests}
 use Rattle.std.proofs.lemmas.Bool.{both_ways, cases_eq, ne_eqb, cond-false, eqb-false, leb-false}
 use Rattle.faults.specs.declared.Fault.{Fault}
-use Rattle.rules.specs.Investees.{ProfileInRange}
+use Rattle.rules.specs.Investees.{PlainProfile, ProfileInRange}
 use Rattle.rules.specs.Tables.{Tables}
-use Rattle.rules.specs.declared.investees.Profile.{Profile}
 use Rattle.rules.proofs.Ranges.{accepted-in-range}
 use Rattle.sources.specs.Readings.{WithinLimits, InLimits}
 use Rattle.sources.specs.declared.reading.Reading.{Reading}
@@ -44,7 +43,7 @@ not-below-zero r e = grind (arith, ints)
 read-limits : (m : Meaning) (r : Reading) → m ≡ Ok r → WithinLimits m → InLimits r
 read-limits m r e h = subst WithinLimits e h
 
-opened-in-range : (x : Profile) (r : Reading) → ProfileInRange x → InLimits r → below_zero r ≡ None → InvesteeInRange (opened x r)
+opened-in-range : (x : PlainProfile) (r : Reading) → ProfileInRange x → InLimits r → below_zero r ≡ None → InvesteeInRange (opened x r)
 opened-in-range x r figures limits e = search (rules, not-below-zero)
 
 -- a new id is that of no investee and of no position
@@ -58,7 +57,7 @@ nothing_lent : exposures [] ≤ most_exposure
 unfolding exposures
 nothing_lent = omega arith
 
-kept-opened : (p : PlainBook) (x : Profile) (r : Reading) → KeptByEveryRun p → is_open x.id p ≡ false → length p.investees < most_investees → ProfileInRange x → InLimits r → below_zero r ≡ None
+kept-opened : (p : PlainBook) (x : PlainProfile) (r : Reading) → KeptByEveryRun p → is_open x.id p ≡ false → length p.investees < most_investees → ProfileInRange x → InLimits r → below_zero r ≡ None
     → KeptByEveryRun (with_investees p (p.investees ++ opened x r ∷ []))
 kept-opened p x r ok is-new room figures limits below = record {
   investees_within_limit = omega (arith, length_push p.investees (opened x r));
@@ -81,7 +80,7 @@ reduced-in-range : (r : Reading) (x : PlainInvestee) → InLimits r → Investee
 reduced-in-range r x limits h = search rules
 
 -- a change that leaves the profile as it is keeps what holds of it
-pub all-profiles : (id : ℕ) (change : PlainInvestee → PlainInvestee) → ((x : PlainInvestee) → (change x).profile ≡ x.profile) → (P : Profile → Type 0) (xs : List PlainInvestee) → AllByRecursion (λ x. P x.profile) xs
+pub all-profiles : (id : ℕ) (change : PlainInvestee → PlainInvestee) → ((x : PlainInvestee) → (change x).profile ≡ x.profile) → (P : PlainProfile → Type 0) (xs : List PlainInvestee) → AllByRecursion (λ x. P x.profile) xs
     → AllByRecursion (λ x. P x.profile) (change_first (has_id id) change xs)
 all-profiles id change same P xs all = all-change (has_id id) change (λ x. P x.profile) (λ x e h. subst P (sym (same x)) h) xs all
 
@@ -99,7 +98,7 @@ kept_read p id change same in_range ok = record {
 }
   where
     same_id : (x : PlainInvestee) → id_of (change x) ≡ id_of x
-    same_id x = ap (λ (y : Profile). y.id) (same x)
+    same_id x = ap (λ (y : PlainProfile). y.id) (same x)
 
 -- ---- posts and amendments
 
@@ -167,7 +166,7 @@ same-profile change same (Err f) x = refl
 kept-changed-book : (t : Tables) (p : PlainBook) (c : Step) → WithinSourceLimits c → KeptByEveryRun p → declined t p c ≡ None → KeptByEveryRun (changed p c)
 kept-changed-book t p (enter fields meaning) limits ok e =
     let o = opened-none t p fields meaning e in
-    subst (λ xs. KeptByEveryRun (with_investees p xs)) (sym (ap₂ (λ (x : Result Profile Fault) (r : Meaning). added x r p.investees) o.in_range o.read))
+    subst (λ xs. KeptByEveryRun (with_investees p xs)) (sym (ap₂ (λ (x : Result PlainProfile Fault) (r : Meaning). added x r p.investees) o.in_range o.read))
     (kept-opened p o.profile o.reading ok o.is-new (leb-false most_investees (length p.investees) o.room) (accepted-in-range fields o.profile o.in_range) (read-limits meaning o.reading o.read limits) o.not_below)
 kept-changed-book t p (restate id meaning) limits ok e =
     let o = if_open-none (investee_of id p) _ e in

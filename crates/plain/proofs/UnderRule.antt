@@ -9,7 +9,7 @@ use Rattle.rules.specs.Figures.{WithinLimits}
 use Rattle.rules.specs.Tables.{Tables, Lawful, BaseInRange}
 use Rattle.rules.specs.declared.figures.Base.{Base}
 use Rattle.rules.specs.declared.figures.Base.TheVariants.{Amount, Whole}
-use Rattle.rules.specs.declared.investees.Profile.{Profile}
+use Rattle.rules.specs.Investees.{PlainProfile}
 use Rattle.rules.proofs.Ranges.{accepted-in-range}
 use Rattle.sources.specs.declared.reading.Reading.{Reading}
 use Rattle.plain.specs.Changes.{opened, restated, reduced_by, read_into, added, changed}
@@ -42,7 +42,7 @@ unfolding exposures
 nothing-passes (at_least w) = le-ltb w 0 (omega arith)
 nothing-passes whole = refl
 
-ruled-opened : (t : Tables) → Lawful t → (p : PlainBook) (x : Profile) (r : Reading) (b : Base) → KeptByEveryRun p → KeptUnderRule t p → is_open x.id p ≡ false → WithinLimits x.figures → t.bases x.kind x.figures ≡ Ok b
+ruled-opened : (t : Tables) → Lawful t → (p : PlainBook) (x : PlainProfile) (r : Reading) (b : Base) → KeptByEveryRun p → KeptUnderRule t p → is_open x.id p ≡ false → WithinLimits x.figures → t.bases x.kind x.figures ≡ Ok b
     → KeptUnderRule t (with_investees p (p.investees ++ opened x r ∷ []))
 ruled-opened t lawful p x r b kept ok is-new figures based = record {
   bases_given = All-push (λ y. is_ok (t.bases y.profile.kind y.profile.figures) ≡ true) p.investees (opened x r) ok.bases_given (ap is_ok based);
@@ -76,7 +76,7 @@ ruled-entered t p b id m v was qs kept ok entry others = record {
 ruled-changed : (t : Tables) → Lawful t → (p : PlainBook) (c : Step) → KeptByEveryRun p → KeptUnderRule t p → declined t p c ≡ None → KeptUnderRule t (changed p c)
 ruled-changed t lawful p (enter fields meaning) kept ok e =
     let o = opened-none t p fields meaning e in
-    subst (λ xs. KeptUnderRule t (with_investees p xs)) (sym (ap₂ (λ (x : Result Profile Fault) (r : Meaning). added x r p.investees) o.in_range o.read))
+    subst (λ xs. KeptUnderRule t (with_investees p xs)) (sym (ap₂ (λ (x : Result PlainProfile Fault) (r : Meaning). added x r p.investees) o.in_range o.read))
     (ruled-opened t lawful p o.profile o.reading o.base kept ok o.is-new (accepted-in-range fields o.profile o.in_range).figures_to o.based)
 ruled-changed t lawful p (restate id meaning) kept ok e = ruled-read t p id (read_into restated meaning) (same-profile restated (λ r x. refl) meaning) ok
 ruled-changed t lawful p (reduce id meaning) kept ok e = ruled-read t p id (read_into reduced_by meaning) (same-profile reduced_by (λ r x. refl) meaning) ok

@@ -1,8 +1,7 @@
 -- What an accepted call does to a plain book. The four readings change nothing.
 use Rattle.std.specs.Prelude.{ℕ, true, false, cond, List, [], ◌∷◌, ◌++◌, pos, is_some, Ok, Err, Result}
 use Rattle.faults.specs.declared.Fault.{Fault}
-use Rattle.rules.specs.Investees.{profile_of}
-use Rattle.rules.specs.declared.investees.Profile.{Profile}
+use Rattle.rules.specs.Investees.{PlainProfile, profile_of}
 use Rattle.sources.specs.declared.reading.Reading.{Reading}
 use Rattle.plain.specs.Lists.{change_first}
 use Rattle.plain.specs.PlainBook.{PlainInvestee, PlainPosition, PlainBook, with_investees, with_positions, has_id, is_of, position_of, new_position, with_balance}
@@ -11,7 +10,7 @@ use Rattle.plain.specs.Steps.{Meaning, Step, enter, restate, reduce, post, amend
 -- ---- investees
 
 -- an opened investee has a reduction of 0 that was not set
-abbrev pub opened : Profile → Reading → PlainInvestee
+abbrev pub opened : PlainProfile → Reading → PlainInvestee
 opened x r = record { profile = x; kilograms = r.kilograms; grade = r.grade; reduction = pos 0; reduced = false }
 
 -- a restatement replaces the reading, and leaves the reduction
@@ -23,7 +22,7 @@ abbrev pub reduced_by : Reading → PlainInvestee → PlainInvestee
 reduced_by r x = record { profile = x.profile; kilograms = x.kilograms; grade = x.grade; reduction = r.kilograms; reduced = true }
 
 -- a fault leaves everything as it is
-abbrev pub added : Result Profile Fault → Meaning → List PlainInvestee → List PlainInvestee
+abbrev pub added : Result PlainProfile Fault → Meaning → List PlainInvestee → List PlainInvestee
 added (Ok x) (Ok r) xs = xs ++ opened x r ∷ []
 added (Ok x) (Err f) xs = xs
 added (Err f) meaning xs = xs

@@ -3,12 +3,12 @@
 --   position   what one branch has lent to one investee: a balance for each month of the year that was posted
 use Rattle.std.specs.Prelude.{ℕ, ◌-◌, Bool, false, ◌&&◌, List, [], replicate, ℤ, is_some, Some, None, Option, ◌==◌, slice_index_or, slice_set}
 use Rattle.rules.specs.Months.{months}
-use Rattle.rules.specs.declared.investees.Profile.{Profile}
+use Rattle.rules.specs.Investees.{PlainProfile}
 use Rattle.plain.specs.Lists.{first_of}
 
 -- a reduction is 0 until one is set
 pub record PlainInvestee : Type 0 where
-  pub profile : Profile
+  pub profile : PlainProfile
   pub kilograms : ℤ
   pub grade : ℕ
   pub reduction : ℤ

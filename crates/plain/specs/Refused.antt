@@ -4,11 +4,10 @@ use Rattle.faults.specs.Refusals.{fault}
 use Rattle.faults.specs.declared.Fault.{Fault}
 use Rattle.faults.specs.declared.Refusal.{Refusal}
 use Rattle.faults.specs.declared.Refusal.TheVariants.{ReadingBelowZero, AlreadyOpen, InvesteesFull, NotOpen, EntryOutOfRange, BondOutsideClosingMonth, MonthAlreadyPosted, MonthNotPosted, PositionsFull, ExposureTooLarge, BondAboveDenominator}
-use Rattle.rules.specs.Investees.{profile_of}
+use Rattle.rules.specs.Investees.{PlainProfile, profile_of}
 use Rattle.rules.specs.Months.{months}
 use Rattle.rules.specs.Tables.{Tables}
 use Rattle.rules.specs.declared.figures.Base.{Base}
-use Rattle.rules.specs.declared.investees.Profile.{Profile}
 use Rattle.sources.specs.declared.reading.Reading.{Reading}
 use Rattle.plain.specs.Branches.{branch_count}
 use Rattle.plain.specs.Changes.{posted, amended}
@@ -30,7 +29,7 @@ if_open None next = Some (fault NotOpen 0 0)
 if_open (Some x) next = next x
 
 -- what follows for the profile, if every field is within its range
-abbrev pub if_in_range : Result Profile Fault → (Profile → Option Fault) → Option Fault
+abbrev pub if_in_range : Result PlainProfile Fault → (PlainProfile → Option Fault) → Option Fault
 if_in_range (Ok x) next = next x
 if_in_range (Err f) next = Some f
 

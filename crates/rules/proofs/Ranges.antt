@@ -7,10 +7,9 @@ use Rattle.rules.specs.declared.kinds.Kind.TheVariants.{Project, PropertyDevelop
 use Rattle.rules.specs.declared.kinds.Size.{Size}
 use Rattle.rules.specs.declared.kinds.Size.TheVariants.{Large, Medium, Small, Micro, Person}
 use Rattle.rules.specs.declared.investees.InvesteeFields.{InvesteeFields}
-use Rattle.rules.specs.declared.investees.Profile.{Profile}
 use Rattle.rules.specs.Figures.{WithinLimits}
 use Rattle.rules.specs.Kinds.{kind_number, kind_numbered, size_number, size_numbered}
-use Rattle.rules.specs.Investees.{numbers_in_range, profile, profiled, profile_of, out_of_range, last_id, last_sector, most_days, ProfileInRange, WithinRanges, SameNumbers}
+use Rattle.rules.specs.Investees.{PlainProfile, numbers_in_range, profile, profiled, profile_of, out_of_range, last_id, last_sector, most_days, ProfileInRange, WithinRanges, SameNumbers}
 
 kind-from-number : (n : ℕ) → 1 ≤ n → n ≤ 6 → (k : Kind) × (kind_numbered n ≡ Some k) × (kind_number k ≡ n)
 kind-from-number zero low high = absurd (omega arith)
@@ -46,7 +45,7 @@ numbers-pass f w =
 numbers-within : (f : InvesteeFields) → numbers_in_range f ≡ true → 1 ≤ f.kind → f.kind ≤ 6 → 1 ≤ f.size → f.size ≤ 5 → WithinRanges f
 numbers-within f e k l s t = grind (arith, nat_tests)
 
-pub accepted-within : (f : InvesteeFields) → WithinRanges f → (p : Profile) × (profile_of f ≡ Ok p) × SameNumbers f p
+pub accepted-within : (f : InvesteeFields) → WithinRanges f → (p : PlainProfile) × (profile_of f ≡ Ok p) × SameNumbers f p
 accepted-within f w =
     let k = kind-from-number f.kind w.kind_from w.kind_to in
     let z = size-from-number f.size w.size_from w.size_to in (
@@ -68,7 +67,7 @@ within-or-refused f = by (kind_numbered f.kind) (size_numbered f.size) refl refl
     by None z p q = inr refl
 
 -- what is accepted was within its ranges, and has the fields' numbers
-pub within-accepted : (f : InvesteeFields) (p : Profile) → profile_of f ≡ Ok p → WithinRanges f × SameNumbers f p
+pub within-accepted : (f : InvesteeFields) (p : PlainProfile) → profile_of f ≡ Ok p → WithinRanges f × SameNumbers f p
 within-accepted f p e =
     ⊎_elim
     (λ w. let one = accepted-within f w in
@@ -77,7 +76,7 @@ within-accepted f p e =
     (λ r. absurd cc)
     (within-or-refused f)
 
-pub accepted-in-range : (f : InvesteeFields) (p : Profile) → profile_of f ≡ Ok p → ProfileInRange p
+pub accepted-in-range : (f : InvesteeFields) (p : PlainProfile) → profile_of f ≡ Ok p → ProfileInRange p
 accepted-in-range f p e =
     let accepted = within-accepted f p e in
     let within = accepted.0 in

@@ -2,6 +2,7 @@ pub mod Months
 pub mod Kinds
 pub mod Figures
 pub mod Investees
+pub mod Seen
 pub mod Tables
 pub mod Attributions
 pub mod Reasons

@@ -1,6 +1,6 @@
 // An investee as a caller sends it, and as rules see it.
 ghost use Rattle.std.specs.Prelude.{◌≡◌};
-ghost use Rattle.rules.specs.Investees.{numbers_in_range, profile_of, financing_of, Checked};
+ghost use Rattle.rules.specs.Investees.{ProfileInRange, numbers_in_range, profile_of, financing_of, Checked};
 
 use crate::figures::Figures;
 use crate::kinds::{Kind, Size};
@@ -29,16 +29,20 @@ pub struct InvesteeFields {
     pub figures: Figures,
 }
 
-// An investee as `checked` makes it, with fields within their ranges. Its days are those that a project has run or a loan has been outstanding.
+/// An investee with its numbers within their ranges, as `checked` makes it: no other can be made.
 #[derive(Clone, Copy, Debug, PartialEq, Eq)]
 pub struct Profile {
+    /// From 1 to `LAST_ID`.
     pub id: u32,
     pub kind: Kind,
-    // A number, as `LAST_SECTOR` has it: no guide tells sectors apart.
+    /// From 0 to `LAST_SECTOR`: a number, since no guide tells sectors apart.
     pub sector: u8,
     pub size: Size,
+    /// The days of the year that a project has run or a loan has been outstanding, at most `MOST_DAYS`.
     pub days: u16,
+    /// Each at most `MOST_FIGURE`.
     pub figures: Figures,
+    pub ghost in_range: { ProfileInRange (record { id = id; kind = kind; sector = sector; size = size; days = days; figures = figures }) },
 }
 
 // How an investee is financed: for what, of which size it is, for how many days, with what exposure over the year and
@@ -53,6 +57,8 @@ pub struct Financing {
 }
 
 impl InvesteeFields {
+    ghost use Rattle.rules.specs.Seen.{seen_profile};
+
     // Whether the fields that are no kind and no size are within their ranges.
     fn numbers_in_range(self) -> bool
         ensures { result ≡ numbers_in_range self }
@@ -65,8 +71,8 @@ impl InvesteeFields {
 
     // The investee that the fields describe, unless one is outside its range.
     pub fn checked(self) -> Result<Profile, Fault>
-        ensures value { result ≡ profile_of self }
-        ensures ranges { Checked self result }
+        ensures value { seen_profile result ≡ profile_of self }
+        ensures ranges { Checked self (seen_profile result) }
     {
         let kind = Kind::try_from(self.kind)?;
         let size = Size::try_from(self.size)?;
@@ -86,9 +92,11 @@ impl InvesteeFields {
 }
 
 impl Profile {
+    ghost use Rattle.rules.specs.Seen.{plain_profile};
+
     // How it is financed, by its exposure over the year and its closing balance.
     pub fn financed(self, exposure: u64, closing: u64) -> Financing
-        ensures { result ≡ financing_of self exposure closing }
+        ensures { result ≡ financing_of (plain_profile self) exposure closing }
     {
         Financing {
             kind: self.kind,

@@ -2,6 +2,7 @@
 ghost use Rattle.std.specs.Prelude.{◌≡◌};
 ghost use Rattle.rules.specs.Tables.{Tables, Lawful, reason_for};
 ghost use Rattle.rules.specs.Attributions.{attribution_of, InRange};
+ghost use Rattle.rules.specs.Seen.{plain_profile};
 
 use crate::figures::{Base, Figures};
 use crate::investees::{Financing, Profile};
@@ -35,8 +36,8 @@ pub struct Attribution {
 // What any rule says of an investee, by its exposure over the year and its closing balance.
 // The two stand beside the investee: a book adds them up from its table of positions.
 pub fn attributed<R: Rule>(rule: &R, investee: Profile, exposure: u64, closing: u64) -> Attribution
-    ensures value { result ≡ attribution_of (R.tables rule.now) investee exposure closing }
-    ensures range { InRange investee exposure closing result }
+    ensures value { result ≡ attribution_of (R.tables rule.now) (plain_profile investee) exposure closing }
+    ensures range { InRange exposure closing result }
 {
     Attribution {
         base: rule.base(investee.kind, investee.figures),
