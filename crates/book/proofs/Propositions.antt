@@ -8,6 +8,7 @@ use native.Mathlib.Nat.{ℕ_set}
 use lib.Dec.{T_prop}
 use Rattle.std.specs.List.{AllByRecursion}
 use Rattle.rules.specs.Figures.{WithinLimits}
+use Rattle.rules.specs.Investees.{PlainProfile, ProfileInRange}
 use Rattle.rules.specs.declared.figures.Figures.{Figures}
 use Rattle.plain.specs.Kept.{InvesteeInRange, PositionInRange, KeptByEveryRun}
 use Rattle.plain.specs.Lists.{Pairwise}
@@ -36,9 +37,18 @@ figures-prop f x y = λ i. record {
   initial_value = le_prop x.initial_value y.initial_value i;
 }
 
+profile-prop : (z : PlainProfile) → IsProp (ProfileInRange z)
+profile-prop z x y = λ i. record {
+  id_from = le_prop x.id_from y.id_from i;
+  id_to = le_prop x.id_to y.id_to i;
+  sector_to = le_prop x.sector_to y.sector_to i;
+  days_to = le_prop x.days_to y.days_to i;
+  figures_to = figures-prop z.figures x.figures_to y.figures_to i;
+}
+
 investee-prop : (z : PlainInvestee) → IsProp (InvesteeInRange z)
 investee-prop z x y = λ i. record {
-  figures_within_limits = figures-prop z.profile.figures x.figures_within_limits y.figures_within_limits i;
+  profile_in_range = profile-prop z.profile x.profile_in_range y.profile_in_range i;
   kilograms_within_limit = le_prop x.kilograms_within_limit y.kilograms_within_limit i;
   kilograms_not_below_zero = order-prop _ _ x.kilograms_not_below_zero y.kilograms_not_below_zero i;
   reduction_within_limit = le_prop x.reduction_within_limit y.reduction_within_limit i;

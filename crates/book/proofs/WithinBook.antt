@@ -47,7 +47,7 @@ module _ (t : Tables) (lawful : Lawful t) (qs : List PlainPosition) (x : PlainIn
     exposure_within_limit = omega (arith, ok.exposure_within_limit);
     exposure_within_base = omega (arith, base-holds (denominator_of t x) (exposure_to x qs));
     base_above_zero = omega arith;
-    base_within_limit = base-within (t.bases x.profile.kind x.profile.figures) (exposure_to x qs) (lawful.bases_in_range x.profile.kind x.profile.figures ok.in_range.figures_within_limits) ok.exposure_within_limit;
+    base_within_limit = base-within (t.bases x.profile.kind x.profile.figures) (exposure_to x qs) (lawful.bases_in_range x.profile.kind x.profile.figures ok.in_range.profile_in_range.figures_to) ok.exposure_within_limit;
   }
 
   fair : (turn : Turn) → turn.before + turn.exposure ≤ exposure_to x qs → Fair (standing_of t qs x) turn x

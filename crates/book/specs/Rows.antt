@@ -1,5 +1,6 @@
 -- The rows that a book keeps, as rows of a plain book: a reduction that was not set is 0 there.
 use Rattle.std.specs.Prelude.{List, map, pos, is_some, unwrap_or}
+use Rattle.rules.specs.Seen.{plain_profile}
 use Rattle.plain.specs.PlainBook.{PlainInvestee, PlainBook}
 use Rattle.positions.specs.View.{positions_in}
 use Rattle.positions.specs.declared.Positions.{Positions}
@@ -7,7 +8,7 @@ use Rattle.book.specs.declared.rows.InvesteeRow.{InvesteeRow}
 
 abbrev pub plain_investee : InvesteeRow → PlainInvestee
 plain_investee x = record {
-  profile = x.profile;
+  profile = plain_profile x.profile;
   kilograms = x.reading.kilograms;
   grade = x.reading.grade;
   reduction = unwrap_or x.reduction (pos 0);

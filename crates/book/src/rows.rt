@@ -2,6 +2,7 @@
 ghost use Rattle.std.specs.Prelude.{◌≡◌};
 ghost use Rattle.plain.specs.Changes.{opened, restated, reduced_by};
 ghost use Rattle.plain.specs.PlainBook.{has_id};
+ghost use Rattle.rules.specs.Seen.{plain_profile};
 ghost use Rattle.book.specs.Rows.{plain_investee};
 
 use rules::figures::Figures;
@@ -17,11 +18,11 @@ pub struct InvesteeRow {
     pub reduction: Option<i64>,
 }
 
-// What fills the places of a table that have no investee yet: no investee has the id 0.
+// What fills the places of a table that have no investee yet. Nothing reads it.
 impl Default for InvesteeRow {
     fn default() -> InvesteeRow {
         let profile = Profile {
-            id: 0,
+            id: 1,
             kind: Kind::GeneralLoan,
             sector: 0,
             size: Size::Person,
@@ -39,7 +40,7 @@ impl Default for InvesteeRow {
 impl InvesteeRow {
     // An investee with its first reading.
     pub(crate) fn opened(profile: Profile, first: Reading) -> InvesteeRow
-        ensures { plain_investee result ≡ opened profile first }
+        ensures { plain_investee result ≡ opened (plain_profile profile) first }
     {
         InvesteeRow {
             profile,

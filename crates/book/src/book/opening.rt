@@ -4,6 +4,7 @@ ghost use Rattle.plain.specs.Limits.{most_investees};
 ghost use Rattle.plain.specs.EachCall.{OneCall};
 ghost use Rattle.plain.specs.Runs.{after, answer};
 ghost use Rattle.plain.specs.Steps.{enter};
+ghost use Rattle.rules.specs.Seen.{seen_profile};
 ghost use Rattle.book.specs.Openings.{emissions_in, taken_by};
 ghost use Rattle.plain.specs.Told.{told, done};
 ghost use Rattle.book.specs.View.{plain};
@@ -38,7 +39,7 @@ impl<'r, R: Rule> Book<'r, R> {
 
     // The investee that the fields describe, if the book and its rule take it.
     fn taken(&self, fields: InvesteeFields) -> Result<Profile, Fault>
-        ensures { result ≡ taken_by (R.tables self.now.rule.now) (plain self.now) fields }
+        ensures { seen_profile result ≡ taken_by (R.tables self.now.rule.now) (plain self.now) fields }
     {
         let profile = fields.checked()?;
         if self.is_open(u64::from(profile.id)) {

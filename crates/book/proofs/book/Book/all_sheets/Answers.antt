@@ -1,24 +1,19 @@
 use Rattle.std.proofs.Common.{◌+◌, get_or, refl, ap, ◌∙◌, arith, take_all}
 use lib.ListN.{get_or-replicate}
-use Rattle.std.proofs.ByRecursion.{All-get_or}
 use Rattle.plain.specs.Branches.{branch_count}
 use Rattle.plain.specs.Limits.{most_investees}
-use Rattle.positions.specs.View.{positions_in}
-use Rattle.book.specs.Rows.{plain_investee}
 use Rattle.book.specs.Shares.{no_kilograms}
-use Rattle.book.specs.Standings.{WithinBook}
 use Rattle.book.specs.View.{plain}
 use Rattle.book.proofs.Adding.{none-kilograms, summed, summed-none, summed-more}
 use Rattle.book.proofs.Sheets.{row_part, parts-sofar-within, sheet-rows}
-use Rattle.book.proofs.WithinBook.{rows-within}
+use Rattle.book.proofs.WithinBook.{rows-within, row-within}
 use Rattle.book.proofs.book.Book.all_sheets.Goals as goal
 
 pub invariant_of-add_parts : goal.invariant_of-add_parts
 invariant_of-add_parts g c =
     let book = c.args.self.now in
     let read = c.as_slice-row-items.result.now in
-    let all = rows-within book.investees.items book.positions book.kept read c.as_slice-row-items.ensures.value in
-    record { within = ∣ All-get_or (λ row. WithinBook (positions_in book.positions) (plain_investee row)) read c.loop-row.row-index _ c.loop-row-test.true all ∣₁ }
+    record { within = ∣ row-within book.investees.items book.positions book.kept read c.as_slice-row-items.ensures.value c.loop-row.row-index c.row-item.result c.loop-row-test.true c.row-item.is ∣₁ }
 
 pub add_parts-requires : goal.add_parts-requires
 add_parts-requires g c =
@@ -43,7 +38,8 @@ loop-row-preserved g c =
     let t = g.R.Rule.tables book.rule.now in (
       c.add_parts.ensures.long,
       λ n h. c.add_parts.ensures.has_part n h
-          ∙ summed-more (row_part t (plain book) (n + 1)) c.as_slice-row-items.result.now c.loop-row.row-index _ c.loop-row-test.true (get_or c.loop-row.sums n no_kilograms) _ (c.loop-row.invariant.1 n h) refl,
+          ∙ summed-more (row_part t (plain book) (n + 1)) c.as_slice-row-items.result.now c.loop-row.row-index c.row-item.result c.loop-row-test.true (get_or c.loop-row.sums n no_kilograms) _ (c.loop-row.invariant.1 n h)
+          (ap (row_part t (plain book) (n + 1)) c.row-item.is),
     )
 
 pub returns : goal.returns

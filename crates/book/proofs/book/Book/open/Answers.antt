@@ -1,5 +1,6 @@
 use Rattle.std.proofs.Common.{◌≡◌, sym, refl, arith}
 use Rattle.std.proofs.lemmas.List.{length-map}
+use Rattle.rules.specs.Seen.{plain_profile}
 use Rattle.plain.specs.Runs.{after}
 use Rattle.plain.specs.Steps.{enter}
 use Rattle.plain.proofs.Runs.{answer-accepted}
@@ -12,7 +13,7 @@ use Rattle.book.proofs.book.Book.open.Given as given
 use Rattle.book.proofs.book.Book.open.Goals as goal
 use Rattle.book.proofs.book.Book.open.Goals.{After-opened, After-push}
 
-accepted : (g : given.Over) (c : After-opened g) → Entered (g.R.Rule.tables c.args.self.now.rule.now) (plain c.args.self.now) c.args.fields (g.S.Source.meaning c.args.source.now) c.in_ok-profile.profile c.in_ok-reading.reading
+accepted : (g : given.Over) (c : After-opened g) → Entered (g.R.Rule.tables c.args.self.now.rule.now) (plain c.args.self.now) c.args.fields (g.S.Source.meaning c.args.source.now) (plain_profile c.in_ok-profile.profile) c.in_ok-reading.reading
 accepted g c = entered _ _ _ _ _ _ c.in_ok-profile.ensures c.in_ok-reading.ensures
 
 -- the book is that after the call
@@ -21,7 +22,7 @@ is-after g c =
     let a = accepted g (goal.at.invariant_of-self g c).After-opened in
     let book = c.args.self.now in
     let added = c.push.ensures.items in
-    opened_rows (g.R.Rule.tables book.rule.now) book.investees.items c.push.new.self.items book.positions c.args.fields (g.S.Source.meaning c.args.source.now) c.in_ok-profile.profile c.in_ok-reading.reading c.opened.result a added c.opened.ensures
+    opened_rows (g.R.Rule.tables book.rule.now) book.investees.items c.push.new.self.items book.positions c.args.fields (g.S.Source.meaning c.args.source.now) (plain_profile c.in_ok-profile.profile) c.in_ok-reading.reading c.opened.result a added c.opened.ensures
 
 pub push-requires : goal.push-requires
 push-requires g c =
@@ -59,6 +60,6 @@ returns-in_err-reading g c =
     let p = plain c.args.self.now in
     let call = enter c.args.fields (g.S.Source.meaning c.args.source.now) in
     let f = c.in_err-reading.field-0.0 in
-    let d = not-read t p c.args.fields (g.S.Source.meaning c.args.source.now) c.in_ok-profile.profile f c.in_ok-profile.ensures c.in_err-reading.ensures in
+    let d = not-read t p c.args.fields (g.S.Source.meaning c.args.source.now) (plain_profile c.in_ok-profile.profile) f c.in_ok-profile.ensures c.in_err-reading.ensures in
     let no = failed t p call f d (g.S.Source.within c.args.source.now) c.args.self.now.kept _ c.from_residual-in_err-reading.ensures.1 in
     record { book = no.book; rule = refl {a = c.args.self.now.rule}; told = no.says; one_call = no.one_call }
