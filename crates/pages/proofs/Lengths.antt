@@ -1,25 +1,27 @@
 -- How long a page can be.
-use Rattle.std.proofs.Common.{◌≡◌, ℕ, suc, ◌+◌, ◌*◌, ◌^◌, ◌<◌, ◌≤◌, Bool, true, false, cond, List, [], ◌∷◌, ◌++◌, map, reverse, length, ℤ, pos, negsuc, nat_abs, Some, None, decimal, Option, ◌∙◌, arith}
+use Rattle.std.proofs.Common.{◌≡◌, ℕ, suc, ◌+◌, ◌*◌, ◌<◌, ◌≤◌, Bool, true, false, cond, List, [], ◌∷◌, ◌++◌, reverse, length, ℤ, pos, negsuc, nat_abs, Some, None, decimal, Option, ◌∙◌, arith}
 use lib.Signed.{mag}
 use Rattle.std.specs.Fmt.{signed_decimal}
 use Rattle.std.specs.List.{flat_map, AllByRecursion}
 use Rattle.std.proofs.lemmas.Fmt.{length-decimal-le, length_signed_le}
 use Rattle.std.proofs.ByRecursion.{All-weaker, All-map}
 use Rattle.std.proofs.lemmas.List.{length-append, length-map}
-use Rattle.rules.specs.Investees.{financing_of}
+use Rattle.rules.specs.Investees.{last_id}
 use Rattle.rules.specs.Tables.{Tables, Lawful}
 use Rattle.sources.specs.Limits.{most_kilograms}
 use Rattle.plain.specs.declared.answers.InvesteeAccount.{InvesteeAccount}
 use Rattle.plain.specs.declared.answers.Kilograms.{Kilograms}
 use Rattle.plain.specs.Branches.{branches, branch_count}
-use Rattle.plain.specs.Exposures.{emissions, apportionment, apportionments, exposure_to, closing_to}
+use Rattle.plain.specs.Exposures.{emissions, apportionment, apportionments, exposure_to}
 use Rattle.plain.specs.Kept.{KeptByEveryRun, InvesteeInRange}
-use Rattle.plain.specs.Limits.{most_investees}
+use Rattle.plain.specs.Limits.{most_investees, most_exposure}
 use Rattle.plain.specs.Parts.{part, total, sheet, book_total}
 use Rattle.plain.specs.PlainBook.{PlainInvestee, PlainBook}
 use Rattle.plain.specs.Readings.{account_of, accounts_of, has_position, sheet_of, sheet_if_any, sheets_of, book_total_of}
+use Rattle.plain.proofs.Asked.{reason-in-range}
 use Rattle.plain.proofs.BranchOrder.{branches-long}
 use Rattle.plain.proofs.EveryRun.{once_per_branch}
+use Rattle.plain.proofs.Lists.{all_both}
 use Rattle.plain.proofs.Parts.{total-within}
 use Rattle.plain.proofs.Sizes.{part-within, sum-within}
 use Rattle.pages.specs.Page.{head_line, account_line, branch_line, total_line, branch_lines, page_of, page_text}
@@ -50,7 +52,7 @@ four a b c d = omega (arith, three a b (c ++ 32 ∷ d), length-append c (32 ∷ 
 
 -- an account with the sizes that a book keeps to
 pub record Short (a : InvesteeAccount) : Type 0 where
-  pub id : a.id < 2 ^ 32
+  pub id : a.id ≤ last_id
   pub kilograms : nat_abs a.total.kilograms.emissions ≤ most_kilograms
   pub reason : a.total.reason ≤ 9
   pub grade : a.total.grade ≤ 5
@@ -140,22 +142,21 @@ module _ (t : Tables) (lawful : Lawful t) (p : PlainBook) (kept : KeptByEveryRun
       by true = sheet-within b
       by false = omega arith
 
-  account : (x : PlainInvestee) → InvesteeInRange x → (account_of t p x).id < 2 ^ 32 → Short (account_of t p x)
-  account x range small = record {
-    id = small;
+  account : (x : PlainInvestee) → InvesteeInRange x × (exposure_to x p.positions ≤ most_exposure) → Short (account_of t p x)
+  account x (range, most) = record {
+    id = range.profile_in_range.id_to;
     kilograms = omega (arith, total-within (apportionment t p.positions emissions x) (once_per_branch p kept x), range.kilograms_within_limit);
-    reason = lawful.reasons_in_range (financing_of x.profile (exposure_to x p.positions) (closing_to x p.positions));
+    reason = reason-in-range t lawful x p.positions range.profile_in_range kept.positions_in_range most;
     grade = range.grade_to;
   }
 
-  -- ids are below 2^32, as a program holds them
-  accounts : (xs : List PlainInvestee) → AllByRecursion InvesteeInRange xs → AllByRecursion (λ a. a.id < 2 ^ 32) (map (account_of t p) xs) → AllByRecursion Short (map (account_of t p) xs)
-  accounts [] range small = tt
-  accounts (x ∷ xs) range small = (account x range.0 small.0, accounts xs range.1 small.1)
+  accounts : AllByRecursion Short (accounts_of t p)
+  accounts =
+      All-map _ (account_of t p) p.investees (All-weaker _ _ account p.investees (all_both _ _ p.investees kept.investees_in_range kept.exposures_within_limit))
 
-  pub room-suffices : AllByRecursion (λ a. a.id < 2 ^ 32) (accounts_of t p) → length (page_text t p) ≤ room
+  pub room-suffices : length (page_text t p) ≤ room
   unfolding page_text
-  room-suffices small =
+  room-suffices =
       page-short (accounts_of t p) (sheets_of t p) (book_total_of t p).all.kilograms.emissions (omega (arith, length-map p.investees (account_of t p), kept.investees_within_limit)) (omega (arith, length-sheets t p))
-      (accounts p.investees kept.investees_in_range small)
+      accounts
       (All-map _ (sheet_if_any t p) (reverse branches) (every _ line-within (reverse branches))) total-fits

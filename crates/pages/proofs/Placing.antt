@@ -1,7 +1,6 @@
 -- A book's page where it was written.
-use Rattle.std.proofs.Common.{◌≡◌, ◌+◌, ◌-◌, ◌^◌, ◌<◌, ◌≤◌, List, ◌++◌, length, take, drop, Some, None, Option, refl, ap, ◌∙◌, subst, arith}
+use Rattle.std.proofs.Common.{◌≡◌, ◌+◌, ◌-◌, ◌≤◌, List, ◌++◌, length, take, drop, Some, None, Option, refl, ap, ◌∙◌, subst, arith}
 use Rattle.std.specs.Option.{IsSome}
-use Rattle.std.specs.List.{AllByRecursion}
 use Rattle.rules.specs.Tables.{Tables, Lawful}
 use Rattle.lines.specs.declared.writing.Writer.{Writer}
 use Rattle.lines.specs.Writing.{Wrote}
@@ -28,9 +27,6 @@ module _ (t : Tables) (lawful : Lawful t) (p : PlainBook) (kept : KeptByEveryRun
   unfolding page_text
   same-page = λ i. page_of (held i) (are-sheets i) (is-total i).all.kilograms.emissions
 
-  within : AllByRecursion (λ a. a.id < 2 ^ 32) (given accounts) → length (page_text t p) ≤ room
-  within ids = room-suffices t lawful p kept (subst (AllByRecursion (λ a. a.id < 2 ^ 32)) held ids)
-
   -- what a writer at the start of a buffer with room for every page holds then
   pub record Page (was now : Writer) (r : Option (Unit {0})) : Type 0 where
     pub some : IsSome r
@@ -38,12 +34,11 @@ module _ (t : Tables) (lawful : Lawful t) (p : PlainBook) (kept : KeptByEveryRun
     pub buffer_after : now.buffer.now ≡ placed t p was.buffer.now
     pub short : now.at ≤ room
 
-  pub page-written : {was now : Writer} (r : Option (Unit {0})) → was.at ≡ 0 → room ≤ length was.buffer.now → AllByRecursion (λ a. a.id < 2 ^ 32) (given accounts)
-      → Wrote was (page_of (given accounts) sheets total.all.kilograms.emissions) now r → Page was now r
-  page-written {was} {now} None start long ids wrote =
+  pub page-written : {was now : Writer} (r : Option (Unit {0})) → was.at ≡ 0 → room ≤ length was.buffer.now → Wrote was (page_of (given accounts) sheets total.all.kilograms.emissions) now r → Page was now r
+  page-written {was} {now} None start long wrote =
       let none = (subst (λ text. Wrote was text now None) same-page wrote).told in
-      absurd (omega (arith, none, start, within ids))
-  page-written {was} {now} (Some u) start long ids wrote =
+      absurd (omega (arith, none, start, room-suffices t lawful p kept))
+  page-written {was} {now} (Some u) start long wrote =
       let w = (subst (λ text. Wrote was text now (Some u)) same-page wrote).told in
       let bytes : now.at ≡ length (page_text t p) = omega (arith, w.0, start) in
       let rest : was.at + length (page_text t p) ≡ length (page_text t p) = omega (arith, start) in
@@ -51,5 +46,5 @@ module _ (t : Tables) (lawful : Lawful t) (p : PlainBook) (kept : KeptByEveryRun
         some = refl;
         bytes = bytes;
         buffer_after = w.2 ∙ (λ i. take (start i) was.buffer.now ++ (page_text t p ++ drop (rest i) was.buffer.now));
-        short = omega (arith, within ids, bytes);
+        short = omega (arith, room-suffices t lawful p kept, bytes);
       }

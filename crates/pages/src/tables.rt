@@ -1,6 +1,6 @@
 // A page, from a table of accounts and a table of sheets.
-ghost use Rattle.std.specs.Prelude.{◌≡◌, ◌^◌, ◌<◌, ◌≤◌, length};
-ghost use Rattle.std.specs.List.{flat_map, AllByRecursion};
+ghost use Rattle.std.specs.Prelude.{◌≡◌, ◌≤◌, length};
+ghost use Rattle.std.specs.List.{flat_map};
 ghost use Rattle.lines.specs.Writing.{Wrote};
 ghost use Rattle.pages.specs.Page.{account_line, branch_lines, given, page_of};
 
@@ -10,18 +10,9 @@ use plain::answers::{InvesteeAccount, Kilograms};
 
 // How many accounts a table holds.
 fn held(accounts: &[Option<InvesteeAccount>]) -> usize
-    ensures count { result ≡ length (given accounts.now) }
-    ensures ids { AllByRecursion (λ a. a.id < 2 ^ 32) (given accounts.now) }
+    ensures { result ≡ length (given accounts.now) }
 {
-    let mut n = 0;
-    for account in accounts {
-        if let Some(account) = account {
-            // No chain that counts: only this read shows that an id has 32 bits, so that a page has room.
-            let _id = account.id;
-            n += 1;
-        }
-    }
-    n
+    accounts.iter().flatten().count()
 }
 
 // The lines of the investees, in the order of the table.
@@ -55,8 +46,7 @@ pub(crate) fn put_page(
     sheets: &[Option<Kilograms>],
     total: i64,
 ) -> Option<()>
-    ensures page { Wrote page.old (page_of (given accounts.now) sheets.now total) page.new result }
-    ensures ids { AllByRecursion (λ a. a.id < 2 ^ 32) (given accounts.now) }
+    ensures { Wrote page.old (page_of (given accounts.now) sheets.now total) page.new result }
 {
     put_head(page, held(accounts))?;
     put_accounts(page, accounts)?;
