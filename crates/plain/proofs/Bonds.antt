@@ -1,32 +1,25 @@
 -- What every run keeps of bonds: each position on one has a balance in the last month only.
-use Rattle.std.proofs.Common.{◌≡◌, ℕ, zero, suc, ◌-◌, Bool, true, false, eqb, ◌≢◌, List, [], ◌∷◌, ◌++◌, length, length-set, get_or, set, replicate, Some, None, Option, Result, sum_by, unwrap_or, sym, refl, ap, ◌∙◌, subst, ap₂, arith}
+use Rattle.std.proofs.Common.{◌≡◌, ℕ, zero, suc, ◌-◌, Bool, true, false, eqb, ◌≢◌, List, [], ◌∷◌, ◌++◌, length, length-set, get_or, set, replicate, Some, None, Option, sum_by, unwrap_or, sym, refl, ap, ◌∙◌, subst, arith}
 use Rattle.std.specs.List.{AllByRecursion}
 use Rattle.std.proofs.ByRecursion.{All-push, All-weaker, all_kept_by, kept_by_passes}
 use Rattle.std.proofs.lemmas.List.{get_or-set_other}
 use Rattle.std.proofs.lemmas.List.Sums.{sum_by-cons}
 use Rattle.std.proofs.lemmas.Bool.Decides.{nat_tests}
 use Rattle.std.proofs.lemmas.Bool.{both_ways, cond_both, eq-eqb, eqb-true}
-use Rattle.faults.specs.declared.Fault.{Fault}
 use Rattle.rules.specs.Months.{months}
 use Rattle.rules.specs.Tables.{Tables}
 use Rattle.rules.specs.Investees.{PlainProfile}
 use Rattle.sources.specs.declared.reading.Reading.{Reading}
-use Rattle.plain.specs.Changes.{opened, restated, reduced_by, read_into, added, with_position, amended, changed}
+use Rattle.plain.specs.Changes.{opened, amended}
 use Rattle.plain.specs.Exposures.{is_bond, closing_of, positions_on}
-use Rattle.plain.specs.Kept.{PositionInRange, PostedAtClosingOnly, KeptByEveryRun, KeptOfBonds}
+use Rattle.plain.specs.Kept.{PositionInRange, PostedAtClosingOnly, BondAtClosing, KeptByEveryRun}
 use Rattle.plain.specs.Lists.{change_first}
-use Rattle.plain.specs.PlainBook.{PlainInvestee, PlainPosition, PlainBook, empty, with_investees, with_positions, id_of, has_id, is_open, new_position, with_balance}
-use Rattle.plain.specs.Refused.{declined, bond_outside_closing}
-use Rattle.plain.specs.Runs.{after}
-use Rattle.plain.specs.Steps.{Meaning, Step, enter, restate, reduce, post, amend, ask_part, ask_total, ask_sheet, ask_book_total}
-use Rattle.plain.proofs.Accepted.{by-a-call, Entered, opened-none, posted-none, amended-none}
-use Rattle.plain.proofs.Kept.{all-profiles, no-positions, no-position-yet, all-entered, same-profile}
+use Rattle.plain.specs.PlainBook.{PlainInvestee, PlainPosition, PlainBook, with_investees, with_positions, id_of, has_id, is_open, new_position, with_balance}
+use Rattle.plain.specs.Refused.{bond_outside_closing}
+use Rattle.plain.proofs.Accepted.{Entered}
+use Rattle.plain.proofs.Changing.{all-profiles, no-positions, no-position-yet, all-entered}
 use Rattle.plain.proofs.Lists.{first-all, all_both}
-use Rattle.plain.proofs.Positions.{new-in-range, all-with-position, all-amended, others-amended, others-posted}
-
--- if the investee is a bond, these positions have a balance in the last month only
-abbrev AtClosing : PlainInvestee → List PlainPosition → Type 0
-AtClosing x qs = is_bond x.profile.kind ≡ true → AllByRecursion PostedAtClosingOnly qs
+use Rattle.plain.proofs.Positions.{all-amended}
 
 -- ---- the positions on an investee, among all positions
 
@@ -49,7 +42,7 @@ none-anywhere zero i = refl
 none-anywhere (suc n) zero = refl
 none-anywhere (suc n) (suc i) = none-anywhere n i
 
-new-at-closing : (b id : ℕ) → PostedAtClosingOnly (new_position b id)
+pub new-at-closing : (b id : ℕ) → PostedAtClosingOnly (new_position b id)
 new-at-closing b id m other = none-anywhere months (m - 1)
 
 balanced-at-closing : (m v : ℕ) → m ≡ months → (q : PlainPosition) → length q.balances ≡ months → PostedAtClosingOnly q → PostedAtClosingOnly (with_balance m v q)
@@ -78,62 +71,38 @@ closing-alone q h =
 closing : (x : PlainInvestee) (m : ℕ) → bond_outside_closing x m ≡ false → is_bond x.profile.kind ≡ true → m ≡ months
 closing x m e bond = grind (arith, nat_tests)
 
--- ---- the calls
+-- ---- the calls: all bonds of a book with these investees and positions
 
-pub bonds-at-first : KeptOfBonds empty
-bonds-at-first = record { posted_at_closing_only = tt }
+abbrev pub BondsAtClosing : PlainBook → Type 0
+BondsAtClosing p = AllByRecursion (λ x. BondAtClosing x (positions_on (id_of x) p.positions)) p.investees
 
-bonds-opened : (p : PlainBook) (x : PlainProfile) (r : Reading) → KeptByEveryRun p → KeptOfBonds p → is_open x.id p ≡ false → KeptOfBonds (with_investees p (p.investees ++ opened x r ∷ []))
-bonds-opened p x r kept ok is-new = record {
-  posted_at_closing_only = All-push (λ y. AtClosing y (positions_on (id_of y) p.positions)) p.investees (opened x r) ok.posted_at_closing_only
-      (λ e. subst (AllByRecursion PostedAtClosingOnly) (sym (no-positions x.id p.positions (no-position-yet x.id p kept is-new))) tt);
-}
+pub bonds-opened : (p : PlainBook) (x : PlainProfile) (r : Reading) → KeptByEveryRun p → is_open x.id p ≡ false → BondsAtClosing (with_investees p (p.investees ++ opened x r ∷ []))
+bonds-opened p x r kept is-new =
+    All-push (λ y. BondAtClosing y (positions_on (id_of y) p.positions)) p.investees (opened x r) kept.bonds_at_closing_only
+    (λ e. subst (AllByRecursion PostedAtClosingOnly) (sym (no-positions x.id p.positions (no-position-yet x.id p kept is-new))) tt)
 
-bonds-read : (p : PlainBook) (id : ℕ) (change : PlainInvestee → PlainInvestee) → ((x : PlainInvestee) → (change x).profile ≡ x.profile) → KeptOfBonds p → KeptOfBonds (with_investees p (change_first (has_id id) change p.investees))
-bonds-read p id change same ok = record {
-  posted_at_closing_only = all-profiles id change same (λ x. is_bond x.kind ≡ true → AllByRecursion PostedAtClosingOnly (positions_on x.id p.positions)) p.investees ok.posted_at_closing_only;
-}
+pub bonds-read : (p : PlainBook) (id : ℕ) (change : PlainInvestee → PlainInvestee) → ((x : PlainInvestee) → (change x).profile ≡ x.profile) → KeptByEveryRun p → BondsAtClosing (with_investees p (change_first (has_id id) change p.investees))
+bonds-read p id change same kept =
+    all-profiles id change same (λ x. is_bond x.kind ≡ true → AllByRecursion PostedAtClosingOnly (positions_on x.id p.positions)) p.investees kept.bonds_at_closing_only
 
 -- an entry on positions among which those on each bond have what the book's own have
-bonds-entered : (t : Tables) (p : PlainBook) (b id m v : ℕ) (was : Bool) (qs : List PlainPosition) → KeptByEveryRun p → KeptOfBonds p → Entered t p b id m v was (amended b id m v qs)
-    → AllByRecursion (λ q. length q.balances ≡ months) qs
+pub bonds-entered : (t : Tables) (p : PlainBook) (b id m v : ℕ) (was : Bool) (qs : List PlainPosition) → KeptByEveryRun p → Entered t p b id m v was (amended b id m v qs)
+    → AllByRecursion PositionInRange qs
     → ((j : ℕ) → AllByRecursion (λ q. q.id ≡ j → PostedAtClosingOnly q) p.positions → AllByRecursion (λ q. q.id ≡ j → PostedAtClosingOnly q) qs)
     → ((j : ℕ) → j ≢ id → positions_on j (amended b id m v qs) ≡ positions_on j p.positions)
-    → KeptOfBonds (with_positions p (amended b id m v qs))
-bonds-entered t p b id m v was qs kept ok entry long more others = record {
-  posted_at_closing_only = all-entered p id x (amended b id m v qs) kept entry.found others AtClosing ok.posted_at_closing_only own;
-}
+    → BondsAtClosing (with_positions p (amended b id m v qs))
+bonds-entered t p b id m v was qs kept entry in_range more others =
+    all-entered p id x (amended b id m v qs) kept entry.found others BondAtClosing kept.bonds_at_closing_only own
   where
     x : PlainInvestee
     x = entry.investee
 
-    before : AtClosing x (positions_on (id_of x) p.positions)
-    before = first-all (λ y. AtClosing y (positions_on (id_of y) p.positions)) (has_id id) p.investees x entry.found ok.posted_at_closing_only
+    before : BondAtClosing x (positions_on (id_of x) p.positions)
+    before = first-all (λ y. BondAtClosing y (positions_on (id_of y) p.positions)) (has_id id) p.investees x entry.found kept.bonds_at_closing_only
 
-    own : AtClosing x (positions_on (id_of x) (amended b id m v qs))
+    own : BondAtClosing x (positions_on (id_of x) (amended b id m v qs))
     own bond =
         on-of-all PostedAtClosingOnly (id_of x) (amended b id m v qs)
         (All-weaker _ _ (λ q h. h.1) (amended b id m v qs)
         (all-amended b id m v (λ q. (length q.balances ≡ months) × (q.id ≡ id_of x → PostedAtClosingOnly q)) (λ q h. (length-set q.balances (m - 1) (Some v) ∙ h.0, λ same. balanced-at-closing m v (closing x m entry.in_closing_month bond) q h.0 (h.1 same))) qs
-        (all_both _ _ qs long (more (id_of x) (all-of-on PostedAtClosingOnly (id_of x) p.positions (before bond))))))
-
-bonds-changed : (t : Tables) (p : PlainBook) (c : Step) → KeptByEveryRun p → KeptOfBonds p → declined t p c ≡ None → KeptOfBonds (changed p c)
-bonds-changed t p (enter fields meaning) kept ok e =
-    let o = opened-none t p fields meaning e in
-    subst (λ xs. KeptOfBonds (with_investees p xs)) (sym (ap₂ (λ (x : Result PlainProfile Fault) (r : Meaning). added x r p.investees) o.in_range o.read))
-    (bonds-opened p o.profile o.reading kept ok o.is-new)
-bonds-changed t p (restate id meaning) kept ok e = bonds-read p id (read_into restated meaning) (same-profile restated (λ r x. refl) meaning) ok
-bonds-changed t p (reduce id meaning) kept ok e = bonds-read p id (read_into reduced_by meaning) (same-profile reduced_by (λ r x. refl) meaning) ok
-bonds-changed t p (post b id m v) kept ok e =
-    bonds-entered t p b id m v false (with_position b id p.positions) kept ok (posted-none t p b id m v e).0
-    (All-weaker _ _ (λ q h. h.a_place_for_each_month) (with_position b id p.positions) (all-with-position b id p.positions PositionInRange kept.positions_in_range (new-in-range b id (posted-none t p b id m v e).0.in_range.branch)))
-    (λ j all. all-with-position b id p.positions (λ q. q.id ≡ j → PostedAtClosingOnly q) all (λ same. new-at-closing b id)) (λ j ne. others-posted b id m v j ne p.positions)
-bonds-changed t p (amend b id m v) kept ok e =
-    bonds-entered t p b id m v true p.positions kept ok (amended-none t p b id m v e) (All-weaker _ _ (λ q h. h.a_place_for_each_month) p.positions kept.positions_in_range) (λ j all. all) (λ j ne. others-amended b id m v j ne p.positions)
-bonds-changed t p (ask_part id b) kept ok e = ok
-bonds-changed t p (ask_total id) kept ok e = ok
-bonds-changed t p (ask_sheet b) kept ok e = ok
-bonds-changed t p ask_book_total kept ok e = ok
-
-pub bonds-by-a-call : (t : Tables) (p : PlainBook) (c : Step) → KeptByEveryRun p → KeptOfBonds p → KeptOfBonds (after t p c)
-bonds-by-a-call t p c kept ok = by-a-call t p c KeptOfBonds ok (bonds-changed t p c kept ok)
+        (all_both _ _ qs (All-weaker _ _ (λ q h. h.a_place_for_each_month) qs in_range) (more (id_of x) (all-of-on PostedAtClosingOnly (id_of x) p.positions (before bond))))))

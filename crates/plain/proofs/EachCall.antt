@@ -25,7 +25,7 @@ use Rattle.plain.specs.Refused.{declined, below_zero}
 use Rattle.plain.specs.Runs.{unless, after, answer, ReachedByARun}
 use Rattle.plain.specs.Steps.{Meaning, Step, enter, restate, reduce, post, amend, ask_part, ask_total, ask_sheet, ask_book_total, WithinSourceLimits}
 use Rattle.plain.proofs.Accepted.{EntryInRange, if_open-none, if_read-none, opened-none, posted-none, amended-none}
-use Rattle.plain.proofs.Kept.{same-profile}
+use Rattle.plain.proofs.Changing.{same-profile}
 use Rattle.plain.proofs.Bonds.{none-anywhere}
 use Rattle.plain.proofs.Lists.{is_find, first-all, found-changed}
 use Rattle.plain.proofs.Positions.{all-with-position, new-in-range}

@@ -18,7 +18,7 @@ use Rattle.plain.specs.declared.answers.InvesteeTotal.{InvesteeTotal}
 use Rattle.plain.specs.declared.answers.Kilograms.{Kilograms}
 use Rattle.plain.specs.Covers.{IsShare, is_of_kind, told_counted, positions_on_those, CoversOf, CoversAreShares, MeanGradeIsNearest}
 use Rattle.plain.specs.Exposures.{exposure_to, positions_on, lent_by, lent_to, is_counted, reason_of, Measure, emissions, reductions, apportionment, apportionments}
-use Rattle.plain.specs.Kept.{InvesteeInRange, KeptByEveryRun, KeptOfBonds, KeptUnderRule}
+use Rattle.plain.specs.Kept.{InvesteeInRange, KeptByEveryRun, KeptUnderRule}
 use Rattle.plain.specs.Limits.{most_exposure}
 use Rattle.plain.specs.Lists.{Pairwise}
 use Rattle.plain.specs.Parts.{part, total, sheet, book_total, OncePerBranch, Orderly}
@@ -27,8 +27,8 @@ use Rattle.plain.specs.Readings.{both, of_investee, part_of, total_of, sheet_of,
 use Rattle.plain.specs.Refused.{if_open, branch_out_of_range}
 use Rattle.plain.specs.Runs.{unless, after, answer, run, ReachedByARun}
 use Rattle.plain.specs.Steps.{Step, ask_part, ask_total, ask_sheet, WithinSourceLimits}
+use Rattle.plain.proofs.Again.{numbered}
 use Rattle.plain.proofs.Asked.{reason-in-range}
-use Rattle.plain.proofs.Bonds.{bonds-at-first, bonds-by-a-call}
 use Rattle.plain.proofs.Kept.{kept-at-first, kept-by-a-call}
 use Rattle.plain.proofs.Covers.{hundredths-share, nearest-mean}
 use Rattle.plain.proofs.OnOne.{positions-on-those, each-on-one}
@@ -282,16 +282,12 @@ of-reached t P at_first keeps p reached =
     subst (λ p. KeptByEveryRun p × P p) reached.2
     (by-run t (λ p. KeptByEveryRun p × P p) (λ p c limits ok. (kept-by-a-call t p c limits ok.0, keeps p c limits ok.0 ok.1)) empty reached.0 reached.1 (kept-at-first, at_first))
 
-bonds-of-reached : (t : Tables) (p : PlainBook) → ReachedByARun t p → KeptByEveryRun p × KeptOfBonds p
-bonds-of-reached t p reached = of-reached t KeptOfBonds bonds-at-first (λ p c limits. bonds-by-a-call t p c) p reached
-
 rule-of-reached : (t : Tables) → Lawful t → (p : PlainBook) → ReachedByARun t p → KeptByEveryRun p × KeptUnderRule t p
 rule-of-reached t lawful p reached = of-reached t (KeptUnderRule t) (ruled-at-first t) (ruled-by-a-call t lawful) p reached
 
 holds-at : (t : Tables) → Lawful t → (p : PlainBook) → KeptByEveryRun p → HoldsAt t p
 holds-at t lawful p kept = record {
   kept = kept;
-  of_bonds = λ reached. (bonds-of-reached t p reached).1;
   under_rule = λ reached. (rule-of-reached t lawful p reached).1;
   orderly = λ m. orderly t lawful p m kept;
   answers = all-answered t p;
@@ -304,8 +300,8 @@ holds-at t lawful p kept = record {
 
 holds-whole : (t : Tables) → Lawful t → (p : PlainBook) → ReachedByARun t p → HoldsWhole t p
 holds-whole t lawful p reached =
-    let bonds = bonds-of-reached t p reached in
-    record { reached = reached; of_bonds = bonds.1; under_rule = (rule-of-reached t lawful p reached).1; as_of_any = holds-at t lawful p bonds.0 }
+    let rule = rule-of-reached t lawful p reached in
+    record { reached = reached; under_rule = rule.1; as_of_any = holds-at t lawful p rule.0 }
 
 from-the-start : (t : Tables) → Lawful t → (calls : List Step) → AllByRecursion WithinSourceLimits calls → AtEachPoint HoldsWhole t empty calls
 from-the-start t lawful calls within k = holds-whole t lawful (run t empty (take k calls)) (take k calls, All-take WithinSourceLimits k calls within, refl)
@@ -321,14 +317,6 @@ holds-throughout t lawful p ok calls within = record {
 }
 
 -- ---- kinds
-
-numbered : (k : Kind) → kind_numbered (kind_number k) ≡ Some k
-numbered Project = refl
-numbered PropertyDevelopment = refl
-numbered PropertyPurchase = refl
-numbered Vehicle = refl
-numbered GeneralLoan = refl
-numbered Bond = refl
 
 kind-of-number : (k l : Kind) → (eqb (kind_number k) (kind_number l) ≡ true) ↔ (k ≡ l)
 kind-of-number k l = (

@@ -1,5 +1,5 @@
 -- First posts on a book, each of which adds a position at the end.
-use Rattle.std.proofs.Common.{◌≡◌, ℕ, zero, suc, ◌+◌, ◌/◌, ◌%◌, ◌<◌, ◌≤◌, Bool, true, false, eqb, List, [], ◌∷◌, ◌++◌, map, length, is_some, Some, None, Option, sym, refl, ap, ◌∙◌, subst, append_assoc, arith}
+use Rattle.std.proofs.Common.{◌≡◌, ℕ, zero, suc, ◌+◌, ◌/◌, ◌%◌, ◌<◌, ◌≤◌, Bool, false, eqb, List, [], ◌∷◌, ◌++◌, map, length, is_some, Some, None, Option, sym, refl, ap, ◌∙◌, subst, append_assoc, arith}
 use Rattle.std.specs.List.{AllByRecursion}
 use Rattle.std.proofs.ByRecursion.{All-push, All-weaker, All-append, All-map}
 use Rattle.std.proofs.lemmas.List.{append-nil, map-append, length-map, length-append, length_push}
@@ -10,7 +10,7 @@ use Rattle.rules.specs.Tables.{Tables}
 use Rattle.rules.specs.declared.kinds.Kind.{Kind}
 use Rattle.rules.specs.declared.kinds.Kind.TheVariants.{GeneralLoan}
 use Rattle.plain.specs.Branches.{branch_count}
-use Rattle.plain.specs.Changes.{posted, amended}
+use Rattle.plain.specs.Changes.{posted}
 use Rattle.plain.specs.Exposures.{exposure_of, exposure_to, lent_by, positions_on}
 use Rattle.plain.specs.Limits.{most_positions}
 use Rattle.plain.specs.Lists.{first_of}
@@ -21,7 +21,8 @@ use Rattle.plain.specs.Runs.{unless, after, run}
 use Rattle.plain.specs.Steps.{post}
 use Rattle.plain.specs.Sums.{down_from}
 use Rattle.plain.specs.WorkedRefusals.{first_post}
-use Rattle.plain.proofs.Lists.{first_passes, none_passes, change-last}
+use Rattle.plain.proofs.Lists.{first_passes}
+use Rattle.plain.proofs.Positions.{posted-new}
 
 -- ---- one first post
 
@@ -31,14 +32,6 @@ none-found test [] none = refl
 none-found test (x ∷ xs) none = ap is_some (cond-false (test x) (Some x) (first_of test xs) none.0) ∙ none-found test xs none.1
 
 module _ (b id m v : ℕ) where
-  posted-new : (qs : List PlainPosition) → is_some (position_of b id qs) ≡ false → posted b id m v qs ≡ qs ++ with_balance m v (new_position b id) ∷ []
-  posted-new qs none =
-      ap (amended b id m v) (cond-false (is_some (position_of b id qs)) qs (qs ++ new_position b id ∷ []) none)
-      ∙ change-last (is_of b id) (with_balance m v) qs (new_position b id) (none_passes (is_of b id) qs none) itself
-    where
-      itself : is_of b id (new_position b id) ≡ true
-      itself = grind (arith, nat_tests)
-
   unposted : (o : Option PlainPosition) → is_some o ≡ false → posted_in m o ≡ false
   unposted None e = refl
   unposted (Some q) e = absurd cc
@@ -50,10 +43,10 @@ module _ (b id m v : ℕ) where
   after-new : (t : Tables) (p : PlainBook) (x : PlainInvestee) → entry_out_of_range b m v ≡ false → investee_of id p ≡ Some x → bond_outside_closing x m ≡ false → is_some (position_of b id p.positions) ≡ false → length p.positions < most_positions
       → too_much_lent t x (p.positions ++ with_balance m v (new_position b id) ∷ []) ≡ None → after t p (post b id m v) ≡ with_positions p (p.positions ++ with_balance m v (new_position b id) ∷ [])
   after-new t p x range found last none few small =
-      ap (λ o. unless o (with_positions p (posted b id m v p.positions)) (λ f. p)) accepted ∙ ap (with_positions p) (posted-new p.positions none)
+      ap (λ o. unless o (with_positions p (posted b id m v p.positions)) (λ f. p)) accepted ∙ ap (with_positions p) (posted-new b id m v p.positions none)
     where
       accepted : declined t p (post b id m v) ≡ None
-      accepted = rw (range, found, last, unposted (position_of b id p.positions) none, room p.positions few, posted-new p.positions none) small
+      accepted = rw (range, found, last, unposted (position_of b id p.positions) none, room p.positions few, posted-new b id m v p.positions none) small
 
 -- ---- a run of them
 

@@ -1,11 +1,11 @@
 -- What every run keeps: the empty book has it, and each call keeps it.
-use Rattle.std.proofs.Common.{◌≡◌, ℕ, ◌<◌, ◌≤◌, Bool, true, false, eqb, ◌≢◌, List, [], ◌∷◌, ◌++◌, map, length, pos, ◌≤ℤ◌, is_some, Some, None, Ok, Err, Result, sym, refl, ap, ◌∙◌, subst, ap₂, ⊎_elim, arith, rules}
+use Rattle.std.proofs.Common.{◌≡◌, ℕ, ◌<◌, ◌≤◌, Bool, true, false, eqb, ◌≢◌, List, [], ◌∷◌, ◌++◌, map, length, pos, ◌≤ℤ◌, is_some, None, Ok, Result, sym, refl, ap, ◌∙◌, subst, ap₂, arith, rules}
 use Rattle.std.specs.List.{AllByRecursion}
 use Rattle.std.proofs.ByRecursion.{All-push, All-weaker}
 use Rattle.std.proofs.lemmas.List.{length_push}
 use Rattle.std.proofs.lemmas.Int.{ints}
 use Rattle.std.proofs.lemmas.Bool.Decides.{nat_tests}
-use Rattle.std.proofs.lemmas.Bool.{both_ways, cases_eq, ne_eqb, cond-false, eqb-false, leb-false}
+use Rattle.std.proofs.lemmas.Bool.{eqb-false, leb-false}
 use Rattle.faults.specs.declared.Fault.{Fault}
 use Rattle.rules.specs.Investees.{PlainProfile, ProfileInRange}
 use Rattle.rules.specs.Tables.{Tables}
@@ -14,16 +14,19 @@ use Rattle.sources.specs.Readings.{WithinLimits, InLimits}
 use Rattle.sources.specs.declared.reading.Reading.{Reading}
 use Rattle.plain.specs.Changes.{opened, restated, reduced_by, read_into, added, with_position, amended, changed}
 use Rattle.plain.specs.Exposures.{exposure_to, lent_by, positions_on}
-use Rattle.plain.specs.Kept.{InvesteeInRange, PositionInRange, KeptByEveryRun}
+use Rattle.plain.specs.Kept.{InvesteeInRange, PositionInRange, PostedAtClosingOnly, HasPost, KeptByEveryRun}
 use Rattle.plain.specs.Limits.{most_investees, most_positions, most_exposure}
-use Rattle.plain.specs.Lists.{first_of, change_first, Pairwise}
+use Rattle.plain.specs.Lists.{change_first, Pairwise}
 use Rattle.plain.specs.Parts.{exposures}
 use Rattle.plain.specs.PlainBook.{PlainInvestee, PlainPosition, PlainBook, empty, with_investees, with_positions, id_of, has_id, investee_of, is_open}
 use Rattle.plain.specs.Refused.{declined, too_much_lent, below_zero}
 use Rattle.plain.specs.Runs.{after}
 use Rattle.plain.specs.Steps.{Meaning, Step, enter, restate, reduce, post, amend, ask_part, ask_total, ask_sheet, ask_book_total, WithinSourceLimits}
 use Rattle.plain.proofs.Accepted.{by-a-call, Entered, if_open-none, if_read-none, opened-none, posted-none, amended-none}
-use Rattle.plain.proofs.Lists.{none_passes, still-found, found-by-key, found-changed, length-change, all-change, pairwise-change, pairwise-push, all_both}
+use Rattle.plain.proofs.Again.{posts-amended, posts-posted}
+use Rattle.plain.proofs.Bonds.{new-at-closing, bonds-opened, bonds-read, bonds-entered}
+use Rattle.plain.proofs.Changing.{no-positions, no-position-yet, same-profile, all-profiles, exposures-entered}
+use Rattle.plain.proofs.Lists.{none_passes, still-found, found-changed, length-change, all-change, pairwise-change, pairwise-push}
 use Rattle.plain.proofs.Positions.{Differ, all-with-position, length-with-position, differ-with-position, new-in-range, length-amended, differ-amended, in-range-amended, all-amended, others-amended, others-posted}
 
 pub kept-at-first : KeptByEveryRun empty
@@ -31,11 +34,6 @@ unfolding Pairwise
 kept-at-first = search rules
 
 -- ---- openings
-
--- an investee without positions has no exposure
-pub no-positions : (id : ℕ) (qs : List PlainPosition) → AllByRecursion (λ q. q.id ≢ id) qs → positions_on id qs ≡ []
-no-positions id [] h = refl
-no-positions id (q ∷ qs) h = cond-false (eqb q.id id) _ _ (ne_eqb q.id id h.0) ∙ no-positions id qs h.1
 
 not-below-zero : (r : Reading) → below_zero r ≡ None → pos 0 ≤ℤ r.kilograms
 not-below-zero r e = grind (arith, ints)
@@ -49,9 +47,6 @@ opened-in-range x r figures limits e = search (rules, not-below-zero)
 -- a new id is that of no investee and of no position
 other-ids : (id : ℕ) (p : PlainBook) → is_open id p ≡ false → AllByRecursion (λ x. id ≢ id_of x) p.investees
 other-ids id p e = All-weaker _ _ (λ x h i. eqb-false (id_of x) id h (sym i)) p.investees (none_passes (has_id id) p.investees e)
-
-pub no-position-yet : (id : ℕ) (p : PlainBook) → KeptByEveryRun p → is_open id p ≡ false → AllByRecursion (λ q. q.id ≢ id) p.positions
-no-position-yet id p ok e = All-weaker _ _ (λ q h i. both_ways (is_open id p) e (subst (λ j. is_open j p ≡ true) i h)) p.positions ok.positions_on_open_investees
 
 nothing_lent : exposures [] ≤ most_exposure
 unfolding exposures
@@ -69,6 +64,8 @@ kept-opened p x r ok is-new room figures limits below = record {
   positions_differ = ok.positions_differ;
   exposures_within_limit = All-push (λ y. exposure_to y p.positions ≤ most_exposure) p.investees (opened x r) ok.exposures_within_limit
       (subst (λ (qs : List PlainPosition). exposures (map (lent_by x.kind) qs) ≤ most_exposure) (sym (no-positions x.id p.positions (no-position-yet x.id p ok is-new))) nothing_lent);
+  bonds_at_closing_only = bonds-opened p x r ok is-new;
+  positions_have_posts = ok.positions_have_posts;
 }
 
 -- ---- restatements and reductions
@@ -77,12 +74,15 @@ restated-in-range : (r : Reading) (x : PlainInvestee) → InLimits r → below_z
 restated-in-range r x limits e h = search (rules, not-below-zero)
 
 reduced-in-range : (r : Reading) (x : PlainInvestee) → InLimits r → InvesteeInRange x → InvesteeInRange (reduced_by r x)
-reduced-in-range r x limits h = search rules
-
--- a change that leaves the profile as it is keeps what holds of it
-pub all-profiles : (id : ℕ) (change : PlainInvestee → PlainInvestee) → ((x : PlainInvestee) → (change x).profile ≡ x.profile) → (P : PlainProfile → Type 0) (xs : List PlainInvestee) → AllByRecursion (λ x. P x.profile) xs
-    → AllByRecursion (λ x. P x.profile) (change_first (has_id id) change xs)
-all-profiles id change same P xs all = all-change (has_id id) change (λ x. P x.profile) (λ x e h. subst P (sym (same x)) h) xs all
+reduced-in-range r x limits h = record {
+  profile_in_range = h.profile_in_range;
+  kilograms_within_limit = h.kilograms_within_limit;
+  kilograms_not_below_zero = h.kilograms_not_below_zero;
+  reduction_within_limit = limits.size;
+  unset_reduction_is_zero = λ unset. absurd cc;
+  grade_from = h.grade_from;
+  grade_to = h.grade_to;
+}
 
 kept_read : (p : PlainBook) (id : ℕ) (change : PlainInvestee → PlainInvestee) → ((x : PlainInvestee) → (change x).profile ≡ x.profile) → ((x : PlainInvestee) → InvesteeInRange x → InvesteeInRange (change x))
     → KeptByEveryRun p → KeptByEveryRun (with_investees p (change_first (has_id id) change p.investees))
@@ -95,6 +95,8 @@ kept_read p id change same in_range ok = record {
   positions_on_open_investees = All-weaker _ _ (λ q h. found-changed (has_id id) change (has_id q.id) (λ x. ap (λ n. eqb n q.id) (same_id x)) p.investees ∙ h) p.positions ok.positions_on_open_investees;
   positions_differ = ok.positions_differ;
   exposures_within_limit = all-profiles id change same (λ x. exposures (map (lent_by x.kind) (positions_on x.id p.positions)) ≤ most_exposure) p.investees ok.exposures_within_limit;
+  bonds_at_closing_only = bonds-read p id change same ok;
+  positions_have_posts = ok.positions_have_posts;
 }
   where
     same_id : (x : PlainInvestee) → id_of (change x) ≡ id_of x
@@ -102,34 +104,15 @@ kept_read p id change same in_range ok = record {
 
 -- ---- posts and amendments
 
--- what holds of each investee and the positions on it: of the investee's own as it is shown, and of the others' as before
-pub all-entered : (p : PlainBook) (id : ℕ) (x : PlainInvestee) (qs : List PlainPosition) → KeptByEveryRun p → investee_of id p ≡ Some x → ((j : ℕ) → j ≢ id → positions_on j qs ≡ positions_on j p.positions)
-    → (P : PlainInvestee → List PlainPosition → Type 0) → AllByRecursion (λ y. P y (positions_on (id_of y) p.positions)) p.investees → P x (positions_on (id_of x) qs) → AllByRecursion (λ y. P y (positions_on (id_of y) qs)) p.investees
-all-entered p id x qs ok found others P before own =
-    All-weaker _ _ each p.investees (all_both _ _ p.investees before (found-by-key id_of p.investees ok.ids_differ))
-  where
-    each : (y : PlainInvestee) → P y (positions_on (id_of y) p.positions) × (first_of (has_id (id_of y)) p.investees ≡ Some y) → P y (positions_on (id_of y) qs)
-    each y h =
-        ⊎_elim
-        (λ e. let same : Some x ≡ Some y = sym found ∙ ap (λ j. first_of (has_id j) p.investees) (sym e) ∙ h.1 in
-        let is : x ≡ y = cc in
-        subst (λ (z : PlainInvestee). P z (positions_on (id_of z) qs)) is own)
-        (λ ne. subst (P y) (sym (others (id_of y) ne)) h.0)
-        (cases_eq (id_of y) id)
-
--- so too of their exposures
-pub exposures-entered : (p : PlainBook) (id : ℕ) (x : PlainInvestee) (qs : List PlainPosition) → KeptByEveryRun p → investee_of id p ≡ Some x → ((j : ℕ) → j ≢ id → positions_on j qs ≡ positions_on j p.positions) → (P : PlainInvestee → ℕ → Type 0)
-    → AllByRecursion (λ y. P y (exposure_to y p.positions)) p.investees → P x (exposure_to x qs) → AllByRecursion (λ y. P y (exposure_to y qs)) p.investees
-exposures-entered p id x qs ok found others P before own = all-entered p id x qs ok found others (λ y rs. P y (exposures (map (lent_by y.profile.kind) rs))) before own
-
 within_limit : (t : Tables) (x : PlainInvestee) (qs : List PlainPosition) → too_much_lent t x qs ≡ None → exposure_to x qs ≤ most_exposure
 within_limit t x qs e = grind (arith, nat_tests)
 
 -- an entry on positions that have what the book's own have
 kept-entered : (t : Tables) (p : PlainBook) (b id m v : ℕ) (was : Bool) (qs : List PlainPosition) → KeptByEveryRun p → Entered t p b id m v was (amended b id m v qs)
     → length qs ≤ most_positions → AllByRecursion PositionInRange qs → AllByRecursion (λ q. is_open q.id p ≡ true) qs → Pairwise Differ qs → ((j : ℕ) → j ≢ id → positions_on j (amended b id m v qs) ≡ positions_on j p.positions)
+    → ((j : ℕ) → AllByRecursion (λ q. q.id ≡ j → PostedAtClosingOnly q) p.positions → AllByRecursion (λ q. q.id ≡ j → PostedAtClosingOnly q) qs) → AllByRecursion HasPost (amended b id m v qs)
     → KeptByEveryRun (with_positions p (amended b id m v qs))
-kept-entered t p b id m v was qs ok entry few in_range all_open differ others = record {
+kept-entered t p b id m v was qs ok entry few in_range all_open differ others at_closing posts = record {
   investees_within_limit = ok.investees_within_limit;
   positions_within_limit = omega (arith, length-amended b id m v qs);
   investees_in_range = ok.investees_in_range;
@@ -140,6 +123,8 @@ kept-entered t p b id m v was qs ok entry few in_range all_open differ others = 
   exposures_within_limit =
       exposures-entered p id entry.investee (amended b id m v qs) ok entry.found others
       (λ y s. s ≤ most_exposure) ok.exposures_within_limit (within_limit t entry.investee _ entry.not-too-much);
+  bonds_at_closing_only = bonds-entered t p b id m v was qs ok entry in_range at_closing others;
+  positions_have_posts = posts;
 }
 
 kept-posted : (t : Tables) (p : PlainBook) (b id m v : ℕ) → KeptByEveryRun p → declined t p (post b id m v) ≡ None → KeptByEveryRun (changed p (post b id m v))
@@ -151,17 +136,16 @@ kept-posted t p b id m v ok e =
     (all-with-position b id p.positions PositionInRange ok.positions_in_range (new-in-range b id entry.in_range.branch))
     (all-with-position b id p.positions (λ q. is_open q.id p ≡ true) ok.positions_on_open_investees (ap is_some entry.found))
     (differ-with-position b id p.positions ok.positions_differ) (λ j ne. others-posted b id m v j ne p.positions)
+    (λ j all. all-with-position b id p.positions (λ q. q.id ≡ j → PostedAtClosingOnly q) all (λ same. new-at-closing b id)) (posts-posted b id m v entry.in_range p.positions ok.positions_in_range ok.positions_have_posts)
 
 kept-amended : (t : Tables) (p : PlainBook) (b id m v : ℕ) → KeptByEveryRun p → declined t p (amend b id m v) ≡ None → KeptByEveryRun (changed p (amend b id m v))
 kept-amended t p b id m v ok e =
-    kept-entered t p b id m v true p.positions ok (amended-none t p b id m v e)
+    let entry = amended-none t p b id m v e in
+    kept-entered t p b id m v true p.positions ok entry
     ok.positions_within_limit ok.positions_in_range ok.positions_on_open_investees ok.positions_differ (λ j ne. others-amended b id m v j ne p.positions)
+    (λ j all. all) (posts-amended b id m v entry.in_range p.positions ok.positions_in_range ok.positions_have_posts)
 
 -- ---- each call
-
-pub same-profile : (change : Reading → PlainInvestee → PlainInvestee) → ((r : Reading) (x : PlainInvestee) → (change r x).profile ≡ x.profile) → (meaning : Meaning) (x : PlainInvestee) → (read_into change meaning x).profile ≡ x.profile
-same-profile change same (Ok r) x = same r x
-same-profile change same (Err f) x = refl
 
 kept-changed-book : (t : Tables) (p : PlainBook) (c : Step) → WithinSourceLimits c → KeptByEveryRun p → declined t p c ≡ None → KeptByEveryRun (changed p c)
 kept-changed-book t p (enter fields meaning) limits ok e =

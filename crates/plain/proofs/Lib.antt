@@ -9,9 +9,11 @@ pub mod Kilograms
 pub mod ShutOut
 pub mod Accepted
 pub mod Positions
-pub mod Kept
+pub mod Changing
 pub mod Bonds
 pub mod Asked
+pub mod Again
+pub mod Kept
 pub mod EachCall
 pub mod UnderRule
 pub mod Covers

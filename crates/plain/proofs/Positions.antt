@@ -17,7 +17,7 @@ use Rattle.plain.specs.Lists.{Pairwise}
 use Rattle.plain.specs.PlainBook.{PlainPosition, is_of, position_of, new_position, with_balance}
 use Rattle.plain.specs.Refused.{no_room_for}
 use Rattle.plain.proofs.Accepted.{EntryInRange}
-use Rattle.plain.proofs.Lists.{none_passes, length-change, all-change, pairwise-change, pairwise-push, kept-changed}
+use Rattle.plain.proofs.Lists.{none_passes, length-change, all-change, pairwise-change, pairwise-push, kept-changed, change-last}
 
 -- a branch has one position on an investee
 abbrev pub Differ : PlainPosition → PlainPosition → Type 0
@@ -84,3 +84,12 @@ module _ (b id m v : ℕ) where
 
   pub others-posted : (j : ℕ) → j ≢ id → (qs : List PlainPosition) → positions_on j (posted b id m v qs) ≡ positions_on j qs
   others-posted j ne qs = others-amended j ne (with_position b id qs) ∙ others-with-position b id qs j ne
+
+  -- a first post stands at the end
+  pub posted-new : (qs : List PlainPosition) → is_some (position_of b id qs) ≡ false → posted b id m v qs ≡ qs ++ with_balance m v (new_position b id) ∷ []
+  posted-new qs none =
+      ap (amended b id m v) (cond-false (is_some (position_of b id qs)) qs (qs ++ new_position b id ∷ []) none)
+      ∙ change-last (is_of b id) (with_balance m v) qs (new_position b id) (none_passes (is_of b id) qs none) itself
+    where
+      itself : is_of b id (new_position b id) ≡ true
+      itself = grind (arith, nat_tests)

@@ -22,7 +22,7 @@ use Rattle.plain.specs.Refused.{declined, too_much_lent, passes}
 use Rattle.plain.specs.Runs.{after}
 use Rattle.plain.specs.Steps.{Meaning, Step, enter, restate, reduce, post, amend, ask_part, ask_total, ask_sheet, ask_book_total, WithinSourceLimits}
 use Rattle.plain.proofs.Accepted.{by-a-call, Entered, opened-none, posted-none, amended-none}
-use Rattle.plain.proofs.Kept.{all-profiles, no-positions, no-position-yet, exposures-entered, same-profile}
+use Rattle.plain.proofs.Changing.{all-profiles, no-positions, no-position-yet, exposures-entered, same-profile}
 use Rattle.plain.proofs.Positions.{others-amended, others-posted}
 
 -- a bond's exposure does not pass its denominator

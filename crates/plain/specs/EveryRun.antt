@@ -10,7 +10,7 @@ use Rattle.plain.specs.Answered.{Answered}
 use Rattle.plain.specs.Branches.{Branch}
 use Rattle.plain.specs.Covers.{is_of_kind, projects_of, rest_of, CoversAreShares, MeanGradeIsNearest}
 use Rattle.plain.specs.Exposures.{exposure_to, closing_to, Measure, emissions, reductions, apportionment, apportionments}
-use Rattle.plain.specs.Kept.{KeptByEveryRun, KeptOfBonds, KeptUnderRule}
+use Rattle.plain.specs.Kept.{KeptByEveryRun, KeptUnderRule}
 use Rattle.plain.specs.Kilograms.{NoKilogramGainedOrLost}
 use Rattle.plain.specs.Parts.{Orderly, counted_in, exact_sum}
 use Rattle.plain.specs.PlainBook.{PlainInvestee, PlainBook, empty, id_of}
@@ -57,8 +57,7 @@ pub record TellsWhy (t : Tables) (p : PlainBook) (ask : Step → Answer) (answer
 -- what holds of a plain book that has what every run keeps, under the tables t
 pub record HoldsAt (t : Tables) (p : PlainBook) : Type 0 where
   pub kept : KeptByEveryRun p
-  -- a run may also begin with a book of which nothing is known of bonds and of the rule's bases
-  pub of_bonds : ReachedByARun t p → KeptOfBonds p
+  -- a run may also begin with a book of which nothing is known under the rule
   pub under_rule : ReachedByARun t p → KeptUnderRule t p
   -- what is parted: of each investee a branch stands once, and an amount to divide by is above 0
   pub orderly : (m : Measure) → AllByRecursion Orderly (apportionments t p m)
@@ -71,7 +70,6 @@ pub record HoldsAt (t : Tables) (p : PlainBook) : Type 0 where
 -- and of one that a run from the empty book has come to, without any condition
 pub record HoldsWhole (t : Tables) (p : PlainBook) : Type 0 where
   pub reached : ReachedByARun t p
-  pub of_bonds : KeptOfBonds p
   pub under_rule : KeptUnderRule t p
   pub as_of_any : HoldsAt t p
 
