@@ -1,16 +1,18 @@
 -- What every run keeps is a proposition, so a book can keep that there is a proof of it, and have the proof back.
 use mathlib.Core.Bool.{Bool-set}
-use mathlib.Core.HLevel.{¬_prop, Unit-prop, →_prop, ×_prop}
-use Rattle.std.proofs.Common.{List, [], ◌∷◌, ℤ, ◌≤ℤ◌}
+use mathlib.Core.HLevel.{¬_prop, Unit-prop, Π_prop, →_prop, ×_prop}
+use Rattle.std.proofs.Common.{◌≡◌, ℕ, zero, suc, List, [], ◌∷◌, ℤ, ◌≤ℤ◌, Some, None, Option, refl}
 use mathlib.Core.Logic.{∥∥₁_elim}
 use native.Mathlib.Bridge.{le_prop}
 use native.Mathlib.Nat.{ℕ_set}
+use ghost.Sets.{retract_set}
 use lib.Dec.{T_prop}
+use lib.IntN.{ℤ_set}
 use Rattle.std.specs.List.{AllByRecursion}
 use Rattle.rules.specs.Figures.{WithinLimits}
 use Rattle.rules.specs.Investees.{PlainProfile, ProfileInRange}
 use Rattle.rules.specs.declared.figures.Figures.{Figures}
-use Rattle.plain.specs.Kept.{InvesteeInRange, PositionInRange, KeptByEveryRun}
+use Rattle.plain.specs.Kept.{InvesteeInRange, PositionInRange, PostedAtClosingOnly, KeptByEveryRun}
 use Rattle.plain.specs.Lists.{Pairwise}
 use Rattle.plain.specs.PlainBook.{PlainInvestee, PlainPosition, PlainBook}
 use Rattle.book.specs.Lines.{LineWithinLimits}
@@ -52,6 +54,7 @@ investee-prop z x y = λ i. record {
   kilograms_within_limit = le_prop x.kilograms_within_limit y.kilograms_within_limit i;
   kilograms_not_below_zero = order-prop _ _ x.kilograms_not_below_zero y.kilograms_not_below_zero i;
   reduction_within_limit = le_prop x.reduction_within_limit y.reduction_within_limit i;
+  unset_reduction_is_zero = →_prop (ℤ_set _ _) x.unset_reduction_is_zero y.unset_reduction_is_zero i;
   grade_from = le_prop x.grade_from y.grade_from i;
   grade_to = le_prop x.grade_to y.grade_to i;
 }
@@ -63,6 +66,25 @@ position-prop q x y = λ i. record {
   balances_within_limit = all_prop _ (λ v. le_prop) q.balances x.balances_within_limit y.balances_within_limit i;
 }
 
+-- options of numbers are a set, since numbers are
+abbrev as-number : Option ℕ → ℕ
+as-number None = zero
+as-number (Some n) = suc n
+
+abbrev of-number : ℕ → Option ℕ
+of-number zero = None
+of-number (suc n) = Some n
+
+there-and-back : (o : Option ℕ) → of-number (as-number o) ≡ o
+there-and-back None = refl
+there-and-back (Some n) = refl
+
+options-set : IsSet (Option ℕ)
+options-set = retract_set as-number of-number there-and-back ℕ_set
+
+closing-prop : (q : PlainPosition) → IsProp (PostedAtClosingOnly q)
+closing-prop q = Π_prop (λ m. →_prop (options-set _ _))
+
 kept-prop : (p : PlainBook) → IsProp (KeptByEveryRun p)
 kept-prop p x y = λ i. record {
   investees_within_limit = le_prop x.investees_within_limit y.investees_within_limit i;
@@ -73,6 +95,8 @@ kept-prop p x y = λ i. record {
   positions_on_open_investees = all_prop _ (λ q. Bool-set _ _) p.positions x.positions_on_open_investees y.positions_on_open_investees i;
   positions_differ = pairwise-prop _ (λ a b. →_prop ¬_prop) p.positions x.positions_differ y.positions_differ i;
   exposures_within_limit = all_prop _ (λ z. le_prop) p.investees x.exposures_within_limit y.exposures_within_limit i;
+  bonds_at_closing_only = all_prop _ (λ z. →_prop (all_prop PostedAtClosingOnly closing-prop _)) p.investees x.bonds_at_closing_only y.bonds_at_closing_only i;
+  positions_have_posts = all_prop _ (λ q. Bool-set _ _) p.positions x.positions_have_posts y.positions_have_posts i;
 }
 
 -- what a book keeps to, from its ghost field
