@@ -5,7 +5,7 @@ use either::{Left, Right};
 use factors::Activity;
 use sources::economic::Economic;
 use sources::estimate::{Estimate, EstimateFigures};
-use sources::layout::line;
+use sources::layout::Labelled;
 use sources::offset::{Offset, OffsetFigures};
 use sources::overseas::{OverseasCut, OverseasFigures};
 use sources::physical::Physical;
@@ -14,7 +14,8 @@ use sources::source::Source;
 use std::io;
 
 fn show<S: Source>(rt: &HostRuntime, label: &str, source: &S) -> io::Result<()> {
-    rt.println(line(rt.alloc(), label, source.read())?)
+    let outcome = source.read();
+    rt.println(Labelled { label, outcome })
 }
 
 fn reports(rt: &HostRuntime) -> io::Result<()> {

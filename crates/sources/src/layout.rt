@@ -1,21 +1,27 @@
 // How what a source reads is printed.
-ghost use Rattle.std.specs.Prelude.{◌≡◌, IfOk, string_bytes};
+ghost use Rattle.std.specs.Prelude.{Some};
 ghost use Rattle.sources.specs.Layout.{line_of};
 
 use crate::reading::Reading;
 use faults::Fault;
-use std::alloc::{AllocError, Global};
+use std::fmt;
 
-// A line such as `report: 1000 kg, grade 1` or `bill: refusal 1, place 2, source 2`.
-pub fn line(
-    heap: Global,
-    label: &str,
-    outcome: Result<Reading, Fault>,
-) -> Result<String, AllocError>
-    ensures { IfOk result (λ s. string_bytes s ≡ line_of label.now outcome) }
-{
-    match outcome {
-        Ok(reading) => format!(in heap; "{label}: {reading}"),
-        Err(fault) => format!(in heap; "{label}: {fault}"),
+/// What a source reads, with a label: it prints a line such as `report: 1000 kg, grade 1` or
+/// `bill: refusal 1, place 2, source 2`, without a line feed.
+#[derive(Clone, Copy)]
+pub struct Labelled<'a> {
+    pub label: &'a str,
+    pub outcome: Result<Reading, Fault>,
+}
+
+impl fmt::Display for Labelled<'_> {
+    ghost output = { λ l. Some (line_of l.label.now l.outcome) };
+
+    fn fmt<W: fmt::Write>(&self, f: &mut fmt::Formatter<W>) -> fmt::Result {
+        let label = self.label;
+        match self.outcome {
+            Ok(reading) => write!(f, "{label}: {reading}"),
+            Err(fault) => write!(f, "{label}: {fault}"),
+        }
     }
 }
