@@ -4,3 +4,4 @@ mod Refusing
 mod Sections
 mod Steps
 mod Walks
+mod Worked

@@ -52,7 +52,7 @@ here-wrong kind kinds l ps r e cut wrong =
 err-is : {X : Type 0} (a b : Stop) → ◌≡◌ {A = Result X Stop} (Err a) (Err b) → a ≡ b
 err-is a b h = cc
 
-never : {X : Type 0} (x : X) (s : Stop) → ◌≡◌ {A = Result X Stop} (Ok x) (Err s) → ⊥
+pub never : {X : Type 0} (x : X) (s : Stop) → ◌≡◌ {A = Result X Stop} (Ok x) (Err s) → ⊥
 never x s h = let z : ◌≡◌ {A = ℕ} 0 1 = cc in absurd (omega arith)
 
 -- ---- lines of one kind, and the lines after them

@@ -4,3 +4,4 @@ pub mod Refused
 pub mod Rows
 pub mod Seen
 pub mod Text
+pub mod Worked

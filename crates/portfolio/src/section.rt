@@ -28,7 +28,7 @@ pub struct Section<'a> {
 
 impl Section<'_> {
     // What the next line reads as; nothing after the last, and from the first on that does not read.
-    pub fn read_next<T, F: Fn(&[u8]) -> Result<T, Misread>>(&mut self, read: F) -> Option<T>
+    pub(crate) fn read_next<T, F: Fn(&[u8]) -> Result<T, Misread>>(&mut self, read: F) -> Option<T>
         requires { F.IsAlwaysCallable read }
         ensures read { NextRead F.Fn read (lines_left self.old) result (lines_left self.new) }
         ensures left { OneFewer self.old.left result self.new.left }

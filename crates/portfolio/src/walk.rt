@@ -20,7 +20,7 @@ pub struct Walk<'a> {
 
 impl<'a> Walk<'a> {
     // The next so many lines, each of which reads.
-    pub fn section<T: Drop, F: Fn(&[u8]) -> Result<T, Misread>>(
+    pub(crate) fn section<T: Drop, F: Fn(&[u8]) -> Result<T, Misread>>(
         &mut self,
         count: usize,
         read: F,
