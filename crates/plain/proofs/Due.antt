@@ -21,13 +21,13 @@ use Rattle.rules.proofs.Ranges.{accepted-in-range, accepted-within, within-or-re
 use Rattle.sources.specs.declared.reading.Reading.{Reading}
 use Rattle.plain.specs.Branches.{branch_count}
 use Rattle.plain.specs.Changes.{posted, amended}
-use Rattle.plain.specs.Due.{Case, FirstDue, ◌due_if◌, source_fault, BelowZero, NoBranch, NoEntry, OfOpen, IsBond, BondPasses, RuleRefuses, RefusedWhenDue}
+use Rattle.plain.specs.Due.{Case, FirstDue, ◌due_if◌, source_fault, BelowZero, NoBranch, NoEntry, OfOpen, IsBond, BondPasses, RuleRefuses, RefusedWhenDue, query_cases}
 use Rattle.plain.specs.Exposures.{is_bond, exposure_to, denominator_of}
 use Rattle.plain.specs.Limits.{most_investees, most_positions, most_balance, most_exposure}
 use Rattle.plain.specs.Parts.{Denominator, at_least, whole}
 use Rattle.plain.specs.PlainBook.{PlainInvestee, PlainPosition, PlainBook, investee_of, is_open, position_of}
-use Rattle.plain.specs.Refused.{refuse, if_in_range, if_based, if_open, if_read, branch_out_of_range, entry_out_of_range, bond_outside_closing, no_room_for, passes, too_much_lent, below_zero}
-use Rattle.plain.specs.Steps.{Meaning, enter, restate, reduce, post, amend, ask_part, ask_total, ask_sheet, ask_book_total}
+use Rattle.plain.specs.Refused.{refuse, if_in_range, if_based, if_open, if_read, branch_out_of_range, entry_out_of_range, bond_outside_closing, no_room_for, passes, too_much_lent, below_zero, declined_query}
+use Rattle.plain.specs.Steps.{Query, for_part, for_total, for_sheet, for_book_total, Meaning, enter, restate, reduce, post, amend, ask}
 
 -- ---- one place of the order
 
@@ -179,6 +179,12 @@ refuses-rule t f x refusal has e = (x.kind, has.same_kind, ap (t.bases x.kind) (
 
 -- ---- the calls
 
+due-query : (p : PlainBook) (query : Query) → FirstDue (query_cases p query) (declined_query p query)
+due-query p (for_part id b) = due-refuse EntryOutOfRange _ _ (branch-out b) (λ _. due-open id p _ _ (λ x found. none-due))
+due-query p (for_total id) = due-open id p _ _ (λ x found. none-due)
+due-query p (for_sheet b) = due-refuse EntryOutOfRange _ _ (branch-out b) (λ _. none-due)
+due-query p for_book_total = none-due
+
 pub refused-when-due : RefusedWhenDue
 refused-when-due t lawful p (enter f meaning) =
     due-fields f _ _ (λ x ok has.
@@ -201,8 +207,4 @@ refused-when-due t lawful p (amend b id m v) =
     due-outside id p x found m _ _
     (due-refuse MonthNotPosted _ _ (not-true _, not_from_false _) (λ _.
     due-lent id p x found t (amended b id m v p.positions)))))
-refused-when-due t lawful p (ask_part id b) =
-    due-refuse EntryOutOfRange _ _ (branch-out b) (λ _. due-open id p _ _ (λ x found. none-due))
-refused-when-due t lawful p (ask_total id) = due-open id p _ _ (λ x found. none-due)
-refused-when-due t lawful p (ask_sheet b) = due-refuse EntryOutOfRange _ _ (branch-out b) (λ _. none-due)
-refused-when-due t lawful p ask_book_total = none-due
+refused-when-due t lawful p (ask query) = due-query p query

@@ -20,10 +20,10 @@ use Rattle.plain.specs.EachCall.{ids, branch_and_id, balance_in, OtherInvesteesA
 use Rattle.plain.specs.Kept.{PositionInRange, KeptByEveryRun}
 use Rattle.plain.specs.Lists.{first_of, change_first}
 use Rattle.plain.specs.PlainBook.{PlainInvestee, PlainPosition, PlainBook, with_investees, id_of, has_id, investee_of, is_open, is_of, position_of, new_position, balance_of, with_balance, posted_in}
-use Rattle.plain.specs.Readings.{of_investee, gives}
+use Rattle.plain.specs.Readings.{of_investee, reply, gives}
 use Rattle.plain.specs.Refused.{declined, below_zero}
 use Rattle.plain.specs.Runs.{unless, after, answer, ReachedByARun}
-use Rattle.plain.specs.Steps.{Meaning, Step, enter, restate, reduce, post, amend, ask_part, ask_total, ask_sheet, ask_book_total, WithinSourceLimits}
+use Rattle.plain.specs.Steps.{Meaning, Query, for_part, for_total, for_sheet, for_book_total, Step, enter, restate, reduce, post, amend, ask, WithinSourceLimits}
 use Rattle.plain.proofs.Accepted.{EntryInRange, if_open-none, if_read-none, opened-none, posted-none, amended-none}
 use Rattle.plain.proofs.Changing.{same-profile}
 use Rattle.plain.proofs.Bonds.{none-anywhere}
@@ -243,10 +243,7 @@ changes t p (reduce id meaning) kept e =
     reads HasReduction reduced_by (λ r x. record { reduction = refl; reduced = refl; profile = refl; kilograms = refl; grade = refl }) (λ r x. refl) p id meaning r.0 o.0 r.1 o.1
 changes t p (post b id m v) kept e = posts t p b id m v kept e
 changes t p (amend b id m v) kept e = amends t p b id m v kept e
-changes t p (ask_part id b) kept e = refl
-changes t p (ask_total id) kept e = refl
-changes t p (ask_sheet b) kept e = refl
-changes t p ask_book_total kept e = refl
+changes t p (ask query) kept e = refl
 
 where-accepted : (t : Tables) (p : PlainBook) (c : Step) → KeptByEveryRun p → ((f : Fault) → answer t p c ≢ Declined f) → ChangesWhatItNames c p (after t p c)
 where-accepted t p c kept accepted = by (declined t p c) refl
@@ -260,16 +257,19 @@ of-investee-given : (o : Option PlainInvestee) (k : PlainInvestee → Answer) �
 of-investee-given None k given f e = absurd cc
 of-investee-given (Some x) k given f e = given x f e
 
+no-refusal-replied : (t : Tables) (p : PlainBook) (query : Query) (f : Fault) → reply t p query ≢ Declined f
+no-refusal-replied t p (for_part id b) f e = of-investee-given (investee_of id p) _ (λ x g h. absurd cc) f e
+no-refusal-replied t p (for_total id) f e = of-investee-given (investee_of id p) _ (λ x g h. absurd cc) f e
+no-refusal-replied t p (for_sheet b) f e = absurd cc
+no-refusal-replied t p for_book_total f e = absurd cc
+
 no-refusal-given : (t : Tables) (p : PlainBook) (c : Step) (f : Fault) → gives t p c ≢ Declined f
 no-refusal-given t p (enter fields meaning) f e = absurd cc
 no-refusal-given t p (restate id meaning) f e = absurd cc
 no-refusal-given t p (reduce id meaning) f e = absurd cc
 no-refusal-given t p (post b id m v) f e = absurd cc
 no-refusal-given t p (amend b id m v) f e = absurd cc
-no-refusal-given t p (ask_part id b) f e = of-investee-given (investee_of id p) _ (λ x g h. absurd cc) f e
-no-refusal-given t p (ask_total id) f e = of-investee-given (investee_of id p) _ (λ x g h. absurd cc) f e
-no-refusal-given t p (ask_sheet b) f e = absurd cc
-no-refusal-given t p ask_book_total f e = absurd cc
+no-refusal-given t p (ask query) f e = no-refusal-replied t p query f e
 
 where-declined : (t : Tables) (p : PlainBook) (c : Step) (f : Fault) → answer t p c ≡ Declined f → after t p c ≡ p
 where-declined t p c f e = by (declined t p c) refl

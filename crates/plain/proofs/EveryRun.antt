@@ -25,8 +25,8 @@ use Rattle.plain.specs.Parts.{part, total, sheet, book_total, OncePerBranch, Ord
 use Rattle.plain.specs.PlainBook.{PlainInvestee, PlainPosition, PlainBook, empty, id_of, investee_of, is_open}
 use Rattle.plain.specs.Readings.{both, of_investee, part_of, total_of, sheet_of, positions_on_all, covers, hundredths, project_kind, is_project, subtotal_of, book_total_of}
 use Rattle.plain.specs.Refused.{if_open, branch_out_of_range}
-use Rattle.plain.specs.Runs.{unless, after, answer, run, ReachedByARun}
-use Rattle.plain.specs.Steps.{Step, ask_part, ask_total, ask_sheet, WithinSourceLimits}
+use Rattle.plain.specs.Runs.{unless, after, answer_to, run, ReachedByARun}
+use Rattle.plain.specs.Steps.{for_part, for_total, for_sheet, Step, WithinSourceLimits}
 use Rattle.plain.proofs.Again.{numbered}
 use Rattle.plain.proofs.Asked.{reason-in-range}
 use Rattle.plain.proofs.Kept.{kept-at-first, kept-by-a-call}
@@ -92,24 +92,24 @@ abbrev told_total : Tables → PlainBook → Option PlainInvestee → InvesteeTo
 told_total t p None = record { kilograms = both (λ m. pos 0); reason = 0; grade = 0 }
 told_total t p (Some x) = total_of t p x
 
-part-told : (t : Tables) (p : PlainBook) (id b : ℕ) → is_open id p ≡ true → Branch b → answer t p (ask_part id b) ≡ Part (told_part t p b (investee_of id p))
+part-told : (t : Tables) (p : PlainBook) (id b : ℕ) → is_open id p ≡ true → Branch b → answer_to t p (for_part id b) ≡ Part (told_part t p b (investee_of id p))
 part-told t p id b is-there branch = rw (in_range b branch) (by (investee_of id p) is-there)
   where
     by : (o : Option PlainInvestee) → is_some o ≡ true → unless (if_open o (λ x. None)) (of_investee o (λ x. Part (part_of t p b x))) Declined ≡ Part (told_part t p b o)
     by None e = absurd cc
     by (Some x) e = refl
 
-total-told : (t : Tables) (p : PlainBook) (id : ℕ) → is_open id p ≡ true → answer t p (ask_total id) ≡ Total (told_total t p (investee_of id p))
+total-told : (t : Tables) (p : PlainBook) (id : ℕ) → is_open id p ≡ true → answer_to t p (for_total id) ≡ Total (told_total t p (investee_of id p))
 total-told t p id is-there = by (investee_of id p) is-there
   where
     by : (o : Option PlainInvestee) → is_some o ≡ true → unless (if_open o (λ x. None)) (of_investee o (λ x. Total (total_of t p x))) Declined ≡ Total (told_total t p o)
     by None e = absurd cc
     by (Some x) e = refl
 
-sheet-told : (t : Tables) (p : PlainBook) (b : ℕ) → Branch b → answer t p (ask_sheet b) ≡ Sheet (sheet_of t p b)
+sheet-told : (t : Tables) (p : PlainBook) (b : ℕ) → Branch b → answer_to t p (for_sheet b) ≡ Sheet (sheet_of t p b)
 sheet-told t p b branch = rw (in_range b branch) refl
 
-abbrev all-answered : (t : Tables) (p : PlainBook) → Answered p (answer t p)
+abbrev all-answered : (t : Tables) (p : PlainBook) → Answered p (answer_to t p)
 all-answered t p = record {
   part_of = λ id b. told_part t p b (investee_of id p);
   total_of = λ id. told_total t p (investee_of id p);
@@ -122,7 +122,7 @@ all-answered t p = record {
 }
 
 -- a book answers whatever it has to
-pub own-answers : (t : Tables) (p : PlainBook) → Answered p (answer t p)
+pub own-answers : (t : Tables) (p : PlainBook) → Answered p (answer_to t p)
 own-answers t p = all-answered t p
 
 -- ---- kilograms
@@ -165,7 +165,7 @@ module _ (t : Tables) (p : PlainBook) (m : Measure) where
 
 -- what is told for a group of the investees
 group-adds-up : (t : Tables) → Lawful t → (p : PlainBook) → KeptByEveryRun p → (m : Measure) (test : PlainInvestee → Bool)
-    → GroupAddsUp t p m (answer t p) (all-answered t p) (filter test p.investees) (measured m (subtotal_of t p (filter test p.investees)).kilograms)
+    → GroupAddsUp t p m (answer_to t p) (all-answered t p) (filter test p.investees) (measured m (subtotal_of t p (filter test p.investees)).kilograms)
 group-adds-up t lawful p ok m test =
     let group = filter test p.investees in
     rw (measured-both m (λ n. book_total (map (apportionment t p.positions n) group))) (record {
@@ -178,14 +178,14 @@ group-adds-up t lawful p ok m test =
 both-add : (m : Measure) (f g h : Measure → ℤ) → ((n : Measure) → f n +ℤ g n ≡ h n) → measured m (both f) +ℤ measured m (both g) ≡ measured m (both h)
 both-add m f g h e = ap₂ ◌+ℤ◌ (measured-both m f) (measured-both m g) ∙ e m ∙ sym (measured-both m h)
 
-kilograms-at : (t : Tables) → Lawful t → (p : PlainBook) → KeptByEveryRun p → (m : Measure) → KeepsEveryKilogram t p m (answer t p) (all-answered t p)
+kilograms-at : (t : Tables) → Lawful t → (p : PlainBook) → KeptByEveryRun p → (m : Measure) → KeepsEveryKilogram t p m (answer_to t p) (all-answered t p)
 kilograms-at t lawful p ok m = record {
   no_kilogram_gained_or_lost = kilograms-kept (apportionments t p m) (orderly t lawful p m ok) _ _ _ _ (answered-as-defined t p m ok);
   projects_add_up =
-      subst (λ (test : PlainInvestee → Bool). GroupAddsUp t p m (answer t p) (all-answered t p) (filter test p.investees) (measured m (subtotal_of t p (filter is_project p.investees)).kilograms))
+      subst (λ (test : PlainInvestee → Bool). GroupAddsUp t p m (answer_to t p) (all-answered t p) (filter test p.investees) (measured m (subtotal_of t p (filter is_project p.investees)).kilograms))
       projects-by-number (group-adds-up t lawful p ok m is_project);
   rest_adds_up =
-      subst (λ (test : PlainInvestee → Bool). GroupAddsUp t p m (answer t p) (all-answered t p) (filter (λ x. not (test x)) p.investees) (measured m (subtotal_of t p (filter (λ x. not (is_project x)) p.investees)).kilograms))
+      subst (λ (test : PlainInvestee → Bool). GroupAddsUp t p m (answer_to t p) (all-answered t p) (filter (λ x. not (test x)) p.investees) (measured m (subtotal_of t p (filter (λ x. not (is_project x)) p.investees)).kilograms))
       projects-by-number (group-adds-up t lawful p ok m (λ x. not (is_project x)));
   projects_and_rest_make_all = both-add m (λ n. book_total (map (apportionment t p.positions n) (filter is_project p.investees)))
       (λ n. book_total (map (apportionment t p.positions n) (filter (λ x. not (is_project x)) p.investees))) _ (subtotals-add t p);
@@ -215,13 +215,13 @@ sum_by-all f g (x ∷ xs) all = omega (arith, sum_by-cons f x xs, sum_by-cons g 
 
 module _ (t : Tables) (p : PlainBook) where
   -- the answers of this book
-  abbrev answers : Answered p (answer t p)
+  abbrev answers : Answered p (answer_to t p)
   answers = all-answered t p
 
   abbrev Found : PlainInvestee → Type 0
   Found x = investee_of (id_of x) p ≡ Some x
 
-  tells-why : Lawful t → KeptByEveryRun p → (x : PlainInvestee) → Found x × (InvesteeInRange x × (exposure_to x p.positions ≤ most_exposure)) → TellsWhy t p (answer t p) answers x
+  tells-why : Lawful t → KeptByEveryRun p → (x : PlainInvestee) → Found x × (InvesteeInRange x × (exposure_to x p.positions ≤ most_exposure)) → TellsWhy t p (answer_to t p) answers x
   tells-why lawful kept x (found, (range, most)) = record {
     reason_is_the_rule's = rw found refl;
     reason_in_range = rw found (reason-in-range t lawful x p.positions range.profile_in_range kept.positions_in_range most);
@@ -235,22 +235,22 @@ module _ (t : Tables) (p : PlainBook) where
       uncounted : (answers.total_of (id_of x)).reason ≢ 0 → is_counted t p.positions x ≡ false
       uncounted why = ne_eqb (reason_of t p.positions x) 0 (λ e. why (rw found e))
 
-  counted-as-told : (x : PlainInvestee) → Found x → told_counted p (answer t p) answers x ≡ is_counted t p.positions x
+  counted-as-told : (x : PlainInvestee) → Found x → told_counted p (answer_to t p) answers x ≡ is_counted t p.positions x
   counted-as-told x found = rw found refl
 
-  mean-told : AllByRecursion Found p.investees → MeanGradeIsNearest p (answer t p) answers
+  mean-told : AllByRecursion Found p.investees → MeanGradeIsNearest p (answer_to t p) answers
   mean-told found =
       let counted = filter (is_counted t p.positions) p.investees in
-      let same : filter (told_counted p (answer t p) answers) p.investees ≡ counted = filter-all _ (is_counted t p.positions) p.investees (All-weaker _ _ counted-as-told p.investees found) in
+      let same : filter (told_counted p (answer_to t p) answers) p.investees ≡ counted = filter-all _ (is_counted t p.positions) p.investees (All-weaker _ _ counted-as-told p.investees found) in
       let grades : sum_by (λ x. exposure_to x p.positions * (answers.total_of (id_of x)).grade) counted ≡ sum_by (λ x. exposure_to x p.positions * x.grade) counted =
       sum_by-all _ _ counted (All-weaker _ _ (λ x h. rw h refl) counted (all_kept_by (is_counted t p.positions) Found p.investees found)) in
       rw (same, grades) (nearest-mean (sum_by (λ x. exposure_to x p.positions * x.grade) counted) (sum_by (λ x. exposure_to x p.positions) counted))
 
   -- of the investees that pass a test
-  covers-of : KeptByEveryRun p → AllByRecursion Found p.investees → (test : PlainInvestee → Bool) → CoversOf p (answer t p) answers test (subtotal_of t p (filter test p.investees))
+  covers-of : KeptByEveryRun p → AllByRecursion Found p.investees → (test : PlainInvestee → Bool) → CoversOf p (answer_to t p) answers test (subtotal_of t p (filter test p.investees))
   covers-of kept found test = record {
-    by_emissions = covers-by (covers t p emissions) (told_counted p (answer t p) answers) (λ x h. counted-as-told x h);
-    by_reductions = covers-by (covers t p reductions) (λ x. told_counted p (answer t p) answers x && x.reduced) (λ x h. ap (λ c. c && x.reduced) (counted-as-told x h));
+    by_emissions = covers-by (covers t p emissions) (told_counted p (answer_to t p) answers) (λ x h. counted-as-told x h);
+    by_reductions = covers-by (covers t p reductions) (λ x. told_counted p (answer_to t p) answers x && x.reduced) (λ x h. ap (λ c. c && x.reduced) (counted-as-told x h));
   }
     where
       covers-by : (covered as-told : PlainInvestee → Bool) → ((x : PlainInvestee) → Found x → as-told x ≡ covered x)
@@ -261,12 +261,12 @@ module _ (t : Tables) (p : PlainBook) where
           ∙ positions-on-those p kept (λ x. test x && as-told x) in
           rw (both-tests, positions-on-those p kept test) (hundredths-share (positions_on_those p (λ x. test x && as-told x)) (positions_on_those p test))
 
-  covers-told : KeptByEveryRun p → AllByRecursion Found p.investees → CoversAreShares p (answer t p) answers
+  covers-told : KeptByEveryRun p → AllByRecursion Found p.investees → CoversAreShares p (answer_to t p) answers
   covers-told kept found = record {
-    of_projects = subst (λ (test : PlainInvestee → Bool). CoversOf p (answer t p) answers test (subtotal_of t p (filter is_project p.investees))) projects-by-number (covers-of kept found is_project);
-    of_rest = subst (λ (test : PlainInvestee → Bool). CoversOf p (answer t p) answers (λ x. not (test x)) (subtotal_of t p (filter (λ x. not (is_project x)) p.investees)))
+    of_projects = subst (λ (test : PlainInvestee → Bool). CoversOf p (answer_to t p) answers test (subtotal_of t p (filter is_project p.investees))) projects-by-number (covers-of kept found is_project);
+    of_rest = subst (λ (test : PlainInvestee → Bool). CoversOf p (answer_to t p) answers (λ x. not (test x)) (subtotal_of t p (filter (λ x. not (is_project x)) p.investees)))
         projects-by-number (covers-of kept found (λ x. not (is_project x)));
-    of_all = subst (λ (xs : List PlainInvestee). CoversOf p (answer t p) answers (λ x. true) (subtotal_of t p xs)) (filter-none p.investees) (covers-of kept found (λ x. true));
+    of_all = subst (λ (xs : List PlainInvestee). CoversOf p (answer_to t p) answers (λ x. true) (subtotal_of t p xs)) (filter-none p.investees) (covers-of kept found (λ x. true));
     all_positions = sym (positions-on-those p kept (λ x. true)) ∙ ap (positions_on_all p) (filter-none p.investees) ∙ each-on-one p kept;
   }
 

@@ -21,7 +21,7 @@ use Rattle.plain.specs.Parts.{exposures}
 use Rattle.plain.specs.PlainBook.{PlainInvestee, PlainPosition, PlainBook, empty, with_investees, with_positions, id_of, has_id, investee_of, is_open}
 use Rattle.plain.specs.Refused.{declined, too_much_lent, below_zero}
 use Rattle.plain.specs.Runs.{after}
-use Rattle.plain.specs.Steps.{Meaning, Step, enter, restate, reduce, post, amend, ask_part, ask_total, ask_sheet, ask_book_total, WithinSourceLimits}
+use Rattle.plain.specs.Steps.{Meaning, Step, enter, restate, reduce, post, amend, ask, WithinSourceLimits}
 use Rattle.plain.proofs.Accepted.{by-a-call, Entered, if_open-none, if_read-none, opened-none, posted-none, amended-none}
 use Rattle.plain.proofs.Again.{posts-amended, posts-posted}
 use Rattle.plain.proofs.Bonds.{new-at-closing, bonds-opened, bonds-read, bonds-entered}
@@ -164,10 +164,7 @@ kept-changed-book t p (reduce id meaning) limits ok e =
     (λ x h. subst (λ (m : Meaning). InvesteeInRange (read_into reduced_by m x)) (sym r.1) (reduced-in-range r.0 x (read-limits meaning r.0 r.1 limits) h)) ok
 kept-changed-book t p (post b id m v) limits ok e = kept-posted t p b id m v ok e
 kept-changed-book t p (amend b id m v) limits ok e = kept-amended t p b id m v ok e
-kept-changed-book t p (ask_part id b) limits ok e = ok
-kept-changed-book t p (ask_total id) limits ok e = ok
-kept-changed-book t p (ask_sheet b) limits ok e = ok
-kept-changed-book t p ask_book_total limits ok e = ok
+kept-changed-book t p (ask query) limits ok e = ok
 
 pub kept-by-a-call : (t : Tables) (p : PlainBook) (c : Step) → WithinSourceLimits c → KeptByEveryRun p → KeptByEveryRun (after t p c)
 kept-by-a-call t p c limits ok = by-a-call t p c KeptByEveryRun ok (kept-changed-book t p c limits ok)

@@ -1,4 +1,4 @@
--- The lists of a book have what its readings answer.
+-- The lists of a book have what its queries are answered.
 use Rattle.std.proofs.Common.{◌≡◌, ℕ, ◌-◌, Bool, true, false, cond, eqb, List, [], ◌∷◌, map, reverse, is_some, Some, None, Option, sym, refl, ap, ◌∙◌, arith}
 use Rattle.std.specs.List.{AllByRecursion}
 use Rattle.std.proofs.ByRecursion.{All-weaker, All-map}
@@ -14,8 +14,8 @@ use Rattle.plain.specs.Lists.{first_of}
 use Rattle.plain.specs.PlainBook.{PlainInvestee, PlainPosition, PlainBook, id_of, is_of, position_of}
 use Rattle.plain.specs.Readings.{sheet_of, account_of, accounts_of, has_position, sheet_if_any}
 use Rattle.plain.specs.Refused.{branch_out_of_range}
-use Rattle.plain.specs.Runs.{answer}
-use Rattle.plain.specs.Steps.{ask_total, ask_sheet}
+use Rattle.plain.specs.Runs.{answer_to}
+use Rattle.plain.specs.Steps.{for_total, for_sheet}
 use Rattle.plain.proofs.BranchOrder.{branches-long, branch-at}
 use Rattle.plain.proofs.Lists.{first_passes, found-by-key}
 
@@ -25,7 +25,7 @@ same-ids : (t : Tables) (p : PlainBook) (xs : List PlainInvestee) → map (λ a.
 same-ids t p [] = refl
 same-ids t p (x ∷ xs) = ap (λ is. id_of x ∷ is) (same-ids t p xs)
 
-totals : (t : Tables) (p : PlainBook) → KeptByEveryRun p → AllByRecursion (λ a. answer t p (ask_total a.id) ≡ Total a.total) (accounts_of t p)
+totals : (t : Tables) (p : PlainBook) → KeptByEveryRun p → AllByRecursion (λ a. answer_to t p (for_total a.id) ≡ Total a.total) (accounts_of t p)
 totals t p kept = All-map _ (account_of t p) p.investees (All-weaker _ _ (λ x found. rw found refl) p.investees (found-by-key id_of p.investees kept.ids_differ))
 
 -- ---- sheets
@@ -65,7 +65,7 @@ at-its-place t p b h =
     get_or-map (sheet_if_any t p) (reverse branches) (b - 1) 0 None (omega (arith, h, branches-long))
     ∙ ap (sheet_if_any t p) (sym (branch-at (b - 1) (omega (arith, h))) ∙ omega (arith, h))
 
-answered : (t : Tables) (p : PlainBook) (b : ℕ) → Branch b → answer t p (ask_sheet b) ≡ Sheet (sheet_of t p b)
+answered : (t : Tables) (p : PlainBook) (b : ℕ) → Branch b → answer_to t p (for_sheet b) ≡ Sheet (sheet_of t p b)
 answered t p b h = let inside : branch_out_of_range b ≡ false = grind (arith, nat_tests) in rw inside refl
 
 pub listed : ListedAsAnswered

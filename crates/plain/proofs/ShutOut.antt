@@ -19,8 +19,8 @@ use Rattle.plain.specs.Parts.{Apportionment, exposures, exposure_at, exposure_be
 use Rattle.plain.specs.PlainBook.{PlainInvestee, PlainBook, investee_of}
 use Rattle.plain.specs.Rounding.{rounded, PartNearShare}
 use Rattle.plain.specs.ShutOut.{thirds, unequal, four_months, lent_to, HasToPart, Way, all_to_the_first, nothing_to_anybody, rounded_by_itself, capped_by_itself, over_months_posted, Loses, GainsOrLoses, DeclinesEverything, thirds_of_999, OpenedWith1000, SimplerAnswersShutOut}
-use Rattle.plain.specs.Runs.{answer, ReachedByARun}
-use Rattle.plain.specs.Steps.{Step, enter, post, ask_part, ask_total, ask_book_total}
+use Rattle.plain.specs.Runs.{answer_to, ReachedByARun}
+use Rattle.plain.specs.Steps.{Query, for_part, for_total, for_book_total, Step, enter, post}
 use Rattle.plain.specs.Sums.{sum_over, down_from}
 use Rattle.plain.specs.Worked.{accounts, company, reads, posts, kilograms, totalled}
 use Rattle.plain.proofs.Somebody.{parted-by-some, answers-of-999}
@@ -61,7 +61,7 @@ abbrev NoTotal : Apportionment → Way → Type 0
 NoTotal a way = (f : ℕ → ℤ) (n : ℤ) → ((b : ℕ) → Branch b → f b ≡ way a b) → PartsMakeTheTotal a f n → ⊥
 
 -- of the one investee
-of-investee-7 : (p : PlainBook) (es : List ℕ) → HasToPart p es → (ask : Step → Answer) (answers : Answered p ask) → KeepsEveryKilogram national_tables p emissions ask answers
+of-investee-7 : (p : PlainBook) (es : List ℕ) → HasToPart p es → (ask : Query → Answer) (answers : Answered p ask) → KeepsEveryKilogram national_tables p emissions ask answers
     → PartsMakeTheTotal (lent_to es) (λ b. (answers.part_of 7 b).emissions) (answers.total_of 7).kilograms.emissions
 of-investee-7 p es is ask answers keeps =
     (subst (AllByRecursion (λ a. PartsMakeTheTotal a (λ b. (answers.part_of a.id b).emissions) (answers.total_of a.id).kilograms.emissions)) is keeps.no_kilogram_gained_or_lost.of_each_investee).0
@@ -123,23 +123,23 @@ months-posted f n same one =
 
 -- ---- refusals, and figures that no source has read
 
-everything-declined : (p : PlainBook) (ask : Step → Answer) → DeclinesEverything ask → Answered p ask → ⊥
+everything-declined : (p : PlainBook) (ask : Query → Answer) → DeclinesEverything ask → Answered p ask → ⊥
 everything-declined p ask declines answers =
-    let e : Declined (declines ask_book_total).0 ≡ Book answers.book_total = sym (declines ask_book_total).1 ∙ answers.book_total_answered in
+    let e : Declined (declines for_book_total).0 ≡ Book answers.book_total = sym (declines for_book_total).1 ∙ answers.book_total_answered in
     absurd cc
 
-one-part-declined : (ask : Step → Answer) (f : Fault) → ask (ask_part 7 2) ≡ Declined f → Answered thirds ask → ⊥
+one-part-declined : (ask : Query → Answer) (f : Fault) → ask (for_part 7 2) ≡ Declined f → Answered thirds ask → ⊥
 unfolding first_of change_first exposures
 one-part-declined ask f declined answers =
     let e : Declined f ≡ Part (answers.part_of 7 2) = sym declined ∙ answers.parts_answered 7 2 refl (lit≤ tt, lit≤ tt) in
     absurd cc
 
-another-total : (ask : Step → Answer) (answers : Answered thirds ask) → (answers.total_of 7).kilograms.emissions ≢ pos 1000 → Loses thirds ask answers
+another-total : (ask : Query → Answer) (answers : Answered thirds ask) → (answers.total_of 7).kilograms.emissions ≢ pos 1000 → Loses thirds ask answers
 unfolding exposures
 another-total ask answers other keeps =
     other (((of-investee-7 thirds (40000 ∷ 40000 ∷ 40000 ∷ []) of_thirds ask answers keeps).total_is_figure_iff_exposures_reach refl not-zero).1 (lit≤ tt))
 
-told-999 : answer national_tables thirds_of_999 (ask_total 7) ≡ totalled (pos 999) 0
+told-999 : answer_to national_tables thirds_of_999 (for_total 7) ≡ totalled (pos 999) 0
 unfolding rounded exposures exposure_at exposure_before sum_over down_from first_of change_first
 told-999 = refl
 
@@ -149,13 +149,13 @@ not-999 e = omega (arith, ints)
 emissions-in : (k : InvesteeTotal) (n : ℤ) → Total k ≡ totalled n 0 → k.kilograms.emissions ≡ n
 emissions-in k n e = let same : k ≡ record { kilograms = kilograms n (pos 0); reason = 0; grade = 1 } = cc e in ap (λ (k : InvesteeTotal). k.kilograms.emissions) same
 
-total-of-999 : (answers : Answered thirds (answer national_tables thirds_of_999)) → (answers.total_of 7).kilograms.emissions ≡ pos 999
+total-of-999 : (answers : Answered thirds (answer_to national_tables thirds_of_999)) → (answers.total_of 7).kilograms.emissions ≡ pos 999
 unfolding first_of change_first exposures
 total-of-999 answers =
     emissions-in (answers.total_of 7) (pos 999) (sym (answers.totals_answered 7 refl) ∙ told-999)
 
-of-999 : (answers : Answered thirds (answer national_tables thirds_of_999)) → Loses thirds (answer national_tables thirds_of_999) answers
-of-999 answers = another-total (answer national_tables thirds_of_999) answers (λ e. not-999 (sym (total-of-999 answers) ∙ e))
+of-999 : (answers : Answered thirds (answer_to national_tables thirds_of_999)) → Loses thirds (answer_to national_tables thirds_of_999) answers
+of-999 answers = another-total (answer_to national_tables thirds_of_999) answers (λ e. not-999 (sym (total-of-999 answers) ∙ e))
 
 opened-otherwise : (q : PlainBook) (x : PlainInvestee) → investee_of 7 q ≡ Some x → x.kilograms ≢ pos 1000 → OpenedWith1000 q → ⊥
 opened-otherwise q x found other opened =

@@ -3,30 +3,25 @@ use Rattle.std.proofs.Common.{◌≡◌, ℕ, Bool, true, false, cond, List, pos
 use Rattle.std.specs.List.{AllByRecursion}
 use Rattle.rules.specs.National.{national_tables}
 use Rattle.plain.specs.declared.answers.Answer.{Answer}
-use Rattle.plain.specs.declared.answers.Answer.TheVariants.{Done, Sheet, Book}
+use Rattle.plain.specs.declared.answers.Answer.TheVariants.{Sheet, Book}
 use Rattle.plain.specs.Answered.{Answered}
 use Rattle.plain.specs.Branches.{Branch}
 use Rattle.plain.specs.Lists.{first_of, change_first}
 use Rattle.plain.specs.Parts.{Apportionment, exposures}
 use Rattle.plain.specs.PlainBook.{PlainBook, is_open}
-use Rattle.plain.specs.Runs.{answer}
+use Rattle.plain.specs.Runs.{answer_to}
 use Rattle.plain.specs.ShutOut.{thirds, thirds_of_999, lent_to, HasToPart, Way, PartedBySome}
-use Rattle.plain.specs.Steps.{Step, enter, restate, reduce, post, amend, ask_part, ask_total, ask_sheet, ask_book_total}
+use Rattle.plain.specs.Steps.{Query, for_part, for_total, for_sheet, for_book_total}
 use Rattle.plain.specs.Worked.{kilograms, emitted, totalled}
 use Rattle.plain.specs.WorkedYear.{nothing}
 use Rattle.plain.proofs.EveryRun.{own-answers}
 
 -- parts in this way, and 0 for everything else
-abbrev made-up : Way → Apportionment → Step → Answer
-made-up way a (ask_part id b) = emitted (way a b)
-made-up way a (ask_total id) = totalled (pos 0) 0
-made-up way a (ask_sheet b) = Sheet (kilograms (pos 0) (pos 0))
-made-up way a ask_book_total = Book (record { projects = nothing; rest = nothing; all = nothing; mean_grade = None })
-made-up way a (enter fields meaning) = Done
-made-up way a (restate id meaning) = Done
-made-up way a (reduce id meaning) = Done
-made-up way a (post b id m v) = Done
-made-up way a (amend b id m v) = Done
+abbrev made-up : Way → Apportionment → Query → Answer
+made-up way a (for_part id b) = emitted (way a b)
+made-up way a (for_total id) = totalled (pos 0) 0
+made-up way a (for_sheet b) = Sheet (kilograms (pos 0) (pos 0))
+made-up way a for_book_total = Book (record { projects = nothing; rest = nothing; all = nothing; mean_grade = None })
 
 abbrev answers-made-up : (way : Way) (a : Apportionment) (p : PlainBook) → Answered p (made-up way a)
 answers-made-up way a p = record {
@@ -55,7 +50,7 @@ same-open id = by _ _ (7 == id)
     by x y true = refl
     by x y false = refl
 
-pub answers-of-999 : Answered thirds (answer national_tables thirds_of_999)
+pub answers-of-999 : Answered thirds (answer_to national_tables thirds_of_999)
 answers-of-999 =
     let own = own-answers national_tables thirds_of_999 in
     record {

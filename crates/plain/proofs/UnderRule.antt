@@ -20,7 +20,7 @@ use Rattle.plain.specs.Parts.{Denominator, at_least, whole, AboveZero, exposures
 use Rattle.plain.specs.PlainBook.{PlainInvestee, PlainPosition, PlainBook, empty, with_investees, with_positions, has_id, is_open}
 use Rattle.plain.specs.Refused.{declined, too_much_lent, passes}
 use Rattle.plain.specs.Runs.{after}
-use Rattle.plain.specs.Steps.{Meaning, Step, enter, restate, reduce, post, amend, ask_part, ask_total, ask_sheet, ask_book_total, WithinSourceLimits}
+use Rattle.plain.specs.Steps.{Meaning, Step, enter, restate, reduce, post, amend, ask, WithinSourceLimits}
 use Rattle.plain.proofs.Accepted.{by-a-call, Entered, opened-none, posted-none, amended-none}
 use Rattle.plain.proofs.Changing.{all-profiles, no-positions, no-position-yet, exposures-entered, same-profile}
 use Rattle.plain.proofs.Positions.{others-amended, others-posted}
@@ -82,10 +82,7 @@ ruled-changed t lawful p (restate id meaning) kept ok e = ruled-read t p id (rea
 ruled-changed t lawful p (reduce id meaning) kept ok e = ruled-read t p id (read_into reduced_by meaning) (same-profile reduced_by (λ r x. refl) meaning) ok
 ruled-changed t lawful p (post b id m v) kept ok e = ruled-entered t p b id m v false _ kept ok (posted-none t p b id m v e).0 (λ j ne. others-posted b id m v j ne p.positions)
 ruled-changed t lawful p (amend b id m v) kept ok e = ruled-entered t p b id m v true _ kept ok (amended-none t p b id m v e) (λ j ne. others-amended b id m v j ne p.positions)
-ruled-changed t lawful p (ask_part id b) kept ok e = ok
-ruled-changed t lawful p (ask_total id) kept ok e = ok
-ruled-changed t lawful p (ask_sheet b) kept ok e = ok
-ruled-changed t lawful p ask_book_total kept ok e = ok
+ruled-changed t lawful p (ask query) kept ok e = ok
 
 pub ruled-by-a-call : (t : Tables) → Lawful t → (p : PlainBook) (c : Step) → WithinSourceLimits c → KeptByEveryRun p → KeptUnderRule t p → KeptUnderRule t (after t p c)
 ruled-by-a-call t lawful p c limits kept ok = by-a-call t p c (KeptUnderRule t) ok (ruled-changed t lawful p c kept ok)

@@ -1,11 +1,11 @@
--- What an accepted call does to a plain book. The four readings change nothing.
+-- What an accepted call does to a plain book. A query changes nothing.
 use Rattle.std.specs.Prelude.{ℕ, true, false, cond, List, [], ◌∷◌, ◌++◌, pos, is_some, Ok, Err, Result}
 use Rattle.faults.specs.declared.Fault.{Fault}
 use Rattle.rules.specs.Investees.{PlainProfile, profile_of}
 use Rattle.sources.specs.declared.reading.Reading.{Reading}
 use Rattle.plain.specs.Lists.{change_first}
 use Rattle.plain.specs.PlainBook.{PlainInvestee, PlainPosition, PlainBook, with_investees, with_positions, has_id, is_of, position_of, new_position, with_balance}
-use Rattle.plain.specs.Steps.{Meaning, Step, enter, restate, reduce, post, amend, ask_part, ask_total, ask_sheet, ask_book_total}
+use Rattle.plain.specs.Steps.{Meaning, Step, enter, restate, reduce, post, amend, ask}
 
 -- ---- investees
 
@@ -55,7 +55,4 @@ changed p (restate id meaning) = with_investees p (change_first (has_id id) (rea
 changed p (reduce id meaning) = with_investees p (change_first (has_id id) (read_into reduced_by meaning) p.investees)
 changed p (post branch id month balance) = with_positions p (posted branch id month balance p.positions)
 changed p (amend branch id month balance) = with_positions p (amended branch id month balance p.positions)
-changed p (ask_part id branch) = p
-changed p (ask_total id) = p
-changed p (ask_sheet branch) = p
-changed p ask_book_total = p
+changed p (ask query) = p

@@ -10,7 +10,7 @@ use Rattle.plain.specs.declared.answers.Subtotal.{Subtotal}
 use Rattle.plain.specs.Answered.{Answered}
 use Rattle.plain.specs.Exposures.{exposure_to}
 use Rattle.plain.specs.PlainBook.{PlainInvestee, PlainBook, id_of, investee_of}
-use Rattle.plain.specs.Steps.{Step}
+use Rattle.plain.specs.Steps.{Query}
 
 -- h hundredths of a percent are k of n, toward zero; there is no share of none
 abbrev pub IsShare : ℕ → ℕ → Option ℕ → Type 0
@@ -28,7 +28,7 @@ abbrev pub rest_of : PlainBook → List PlainInvestee
 rest_of p = filter (λ x. not (is_of_kind Project x)) p.investees
 
 -- the total of the investee tells reason 0
-abbrev pub told_counted : (p : PlainBook) (ask : Step → Answer) → Answered p ask → PlainInvestee → Bool
+abbrev pub told_counted : (p : PlainBook) (ask : Query → Answer) → Answered p ask → PlainInvestee → Bool
 told_counted p ask answers x = (answers.total_of (id_of x)).reason == 0
 
 -- there is an investee, and it passes the test
@@ -42,18 +42,18 @@ positions_on_those p test = count_by (λ q. is_one_that test (investee_of q.id p
 
 -- of the positions on a group of investees, those on investees with reason 0 are covered, and for reductions those on investees
 -- with reason 0 that have one set
-pub record CoversOf (p : PlainBook) (ask : Step → Answer) (answers : Answered p ask) (group : PlainInvestee → Bool) (told : Subtotal) : Type 0 where
+pub record CoversOf (p : PlainBook) (ask : Query → Answer) (answers : Answered p ask) (group : PlainInvestee → Bool) (told : Subtotal) : Type 0 where
   pub by_emissions : IsShare (positions_on_those p (λ x. group x && told_counted p ask answers x)) (positions_on_those p group) told.emissions_cover
   pub by_reductions : IsShare (positions_on_those p (λ x. group x && (told_counted p ask answers x && x.reduced))) (positions_on_those p group) told.reductions_cover
 
 -- of a book total; every position is on some investee
-pub record CoversAreShares (p : PlainBook) (ask : Step → Answer) (answers : Answered p ask) : Type 0 where
+pub record CoversAreShares (p : PlainBook) (ask : Query → Answer) (answers : Answered p ask) : Type 0 where
   pub of_projects : CoversOf p ask answers (is_of_kind Project) answers.book_total.projects
   pub of_rest : CoversOf p ask answers (λ x. not (is_of_kind Project x)) answers.book_total.rest
   pub of_all : CoversOf p ask answers (λ x. true) answers.book_total.all
   pub all_positions : positions_on_those p (λ x. true) ≡ length p.positions
 
 -- the mean of the grades that the totals tell, by exposure, over the investees with reason 0: the nearest hundredth, half up
-abbrev pub MeanGradeIsNearest : (p : PlainBook) (ask : Step → Answer) → Answered p ask → Type 0
+abbrev pub MeanGradeIsNearest : (p : PlainBook) (ask : Query → Answer) → Answered p ask → Type 0
 MeanGradeIsNearest p ask answers =
     IsNearestMean (λ x. exposure_to x p.positions) (λ x. (answers.total_of (id_of x)).grade) (filter (told_counted p ask answers) p.investees) answers.book_total.mean_grade

@@ -20,7 +20,7 @@ use Rattle.plain.specs.Limits.{most_investees, most_positions, most_balance, mos
 use Rattle.plain.specs.Parts.{at_least}
 use Rattle.plain.specs.PlainBook.{PlainInvestee, PlainPosition, PlainBook, investee_of, is_open, position_of, is_posted}
 use Rattle.plain.specs.Refused.{declined}
-use Rattle.plain.specs.Steps.{Meaning, Step, enter, restate, reduce, post, amend, ask_part, ask_total, ask_sheet, ask_book_total}
+use Rattle.plain.specs.Steps.{Meaning, Query, for_part, for_total, for_sheet, for_book_total, Step, enter, restate, reduce, post, amend, ask}
 
 -- which faults are due, at one place of the order
 abbrev pub Case : Type 1
@@ -71,7 +71,14 @@ BondPasses t qs x = IsBond x × ((w : ℕ) × (denominator_of t x ≡ at_least w
 
 -- ---- the order of each call
 
--- the refusals of each call, in the order in which they are tried
+-- the refusals of each query, in the order in which they are tried
+abbrev pub query_cases : PlainBook → Query → List Case
+query_cases p (for_part id b) = (EntryOutOfRange due_if NoBranch b) ∷ (NotOpen due_if (is_open id p ≡ false)) ∷ []
+query_cases p (for_total id) = (NotOpen due_if (is_open id p ≡ false)) ∷ []
+query_cases p (for_sheet b) = (EntryOutOfRange due_if NoBranch b) ∷ []
+query_cases p for_book_total = []
+
+-- and of each call
 abbrev pub cases : Tables → PlainBook → Step → List Case
 cases t p (enter fields meaning) =
     (FieldOutOfRange due_if (WithinRanges fields → ⊥))
@@ -101,10 +108,7 @@ cases t p (amend b id m v) =
     ∷ (ExposureTooLarge due_if OfOpen id p (λ x. most_exposure < exposure_to x (amended b id m v p.positions)))
     ∷ (BondAboveDenominator due_if OfOpen id p (BondPasses t (amended b id m v p.positions)))
     ∷ []
-cases t p (ask_part id b) = (EntryOutOfRange due_if NoBranch b) ∷ (NotOpen due_if (is_open id p ≡ false)) ∷ []
-cases t p (ask_total id) = (NotOpen due_if (is_open id p ≡ false)) ∷ []
-cases t p (ask_sheet b) = (EntryOutOfRange due_if NoBranch b) ∷ []
-cases t p ask_book_total = []
+cases t p (ask query) = query_cases p query
 
 -- so it is of each call, under every lawful rule
 abbrev pub RefusedWhenDue : Type 0

@@ -12,7 +12,7 @@ use Rattle.plain.specs.declared.answers.Answer.TheVariants.{Declined}
 use Rattle.plain.specs.Kept.{KeptByEveryRun}
 use Rattle.plain.specs.PlainBook.{PlainInvestee, PlainPosition, PlainBook, id_of, investee_of, position_of, balance_of}
 use Rattle.plain.specs.Runs.{after, answer, ReachedByARun}
-use Rattle.plain.specs.Steps.{Meaning, Step, enter, restate, reduce, post, amend, ask_part, ask_total, ask_sheet, ask_book_total, WithinSourceLimits}
+use Rattle.plain.specs.Steps.{Meaning, Step, enter, restate, reduce, post, amend, ask, WithinSourceLimits}
 
 -- ---- what can be looked up, beside the investee of an id
 
@@ -104,10 +104,7 @@ ChangesWhatItNames (restate id meaning) p q = ReadsInto HasReading id meaning p 
 ChangesWhatItNames (reduce id meaning) p q = ReadsInto HasReduction id meaning p q
 ChangesWhatItNames (post b id m v) p q = Posts b id m v p q
 ChangesWhatItNames (amend b id m v) p q = Amends b id m v p q
-ChangesWhatItNames (ask_part id b) p q = q ≡ p
-ChangesWhatItNames (ask_total id) p q = q ≡ p
-ChangesWhatItNames (ask_sheet b) p q = q ≡ p
-ChangesWhatItNames ask_book_total p q = q ≡ p
+ChangesWhatItNames (ask query) p q = q ≡ p
 
 -- One call on a book under the tables t: it has led from p to q, and was answered by a.
 pub record OneCall (t : Tables) (p : PlainBook) (c : Step) (a : Answer) (q : PlainBook) : Type 0 where

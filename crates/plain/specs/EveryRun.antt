@@ -15,8 +15,8 @@ use Rattle.plain.specs.Kilograms.{NoKilogramGainedOrLost}
 use Rattle.plain.specs.Parts.{Orderly, counted_in, exact_sum}
 use Rattle.plain.specs.PlainBook.{PlainInvestee, PlainBook, empty, id_of}
 use Rattle.plain.specs.Rounding.{TotalNearExactSum}
-use Rattle.plain.specs.Runs.{answer, run, ReachedByARun}
-use Rattle.plain.specs.Steps.{Step, WithinSourceLimits}
+use Rattle.plain.specs.Runs.{answer_to, run, ReachedByARun}
+use Rattle.plain.specs.Steps.{Query, Step, WithinSourceLimits}
 use Rattle.plain.specs.Sums.{sum_over}
 
 -- the kilograms of one measure
@@ -24,15 +24,15 @@ abbrev pub measured : Measure → Kilograms → ℤ
 measured emissions k = k.emissions
 measured reductions k = k.reductions
 
--- ---- the answers that are asked of a book with this plain book
+-- ---- the answers to the queries on a book with this plain book
 
 -- What is told for a group of investees: the totals of these investees add up to it, and it lies near their exact sum.
-pub record GroupAddsUp (t : Tables) (p : PlainBook) (m : Measure) (ask : Step → Answer) (answers : Answered p ask) (group : List PlainInvestee) (kilograms : ℤ) : Type 0 where
+pub record GroupAddsUp (t : Tables) (p : PlainBook) (m : Measure) (ask : Query → Answer) (answers : Answered p ask) (group : List PlainInvestee) (kilograms : ℤ) : Type 0 where
   pub totals_add_up : sum_over group (λ x. measured m (answers.total_of (id_of x)).kilograms) ≡ kilograms
   pub near_exact_sum : TotalNearExactSum (counted_in (map (apportionment t p.positions m) group)) kilograms (exact_sum (map (apportionment t p.positions m) group))
 
 -- In one measure; the book total is that for all kinds.
-pub record KeepsEveryKilogram (t : Tables) (p : PlainBook) (m : Measure) (ask : Step → Answer) (answers : Answered p ask) : Type 0 where
+pub record KeepsEveryKilogram (t : Tables) (p : PlainBook) (m : Measure) (ask : Query → Answer) (answers : Answered p ask) : Type 0 where
   pub no_kilogram_gained_or_lost :
       NoKilogramGainedOrLost (apportionments t p m)
       (λ id branch. measured m (answers.part_of id branch))
@@ -45,7 +45,7 @@ pub record KeepsEveryKilogram (t : Tables) (p : PlainBook) (m : Measure) (ask : 
 
 -- What the total of an investee tells beside kilograms: the rule's reason to leave it out, 1 to 9, or 0, and the grade of its reading.
 -- Where there is a reason, nothing falls to anybody.
-pub record TellsWhy (t : Tables) (p : PlainBook) (ask : Step → Answer) (answers : Answered p ask) (x : PlainInvestee) : Type 0 where
+pub record TellsWhy (t : Tables) (p : PlainBook) (ask : Query → Answer) (answers : Answered p ask) (x : PlainInvestee) : Type 0 where
   pub reason_is_the_rule's : (answers.total_of (id_of x)).reason ≡ reason_for t (financing_of x.profile (exposure_to x p.positions) (closing_to x p.positions))
   pub reason_in_range : (answers.total_of (id_of x)).reason ≤ 9
   pub grade_is_the_reading's : (answers.total_of (id_of x)).grade ≡ x.grade
@@ -61,11 +61,11 @@ pub record HoldsAt (t : Tables) (p : PlainBook) : Type 0 where
   pub under_rule : ReachedByARun t p → KeptUnderRule t p
   -- what is parted: of each investee a branch stands once, and an amount to divide by is above 0
   pub orderly : (m : Measure) → AllByRecursion Orderly (apportionments t p m)
-  pub answers : Answered p (answer t p)
-  pub kilograms : (m : Measure) → KeepsEveryKilogram t p m (answer t p) answers
-  pub reasons : AllByRecursion (TellsWhy t p (answer t p) answers) p.investees
-  pub covers : CoversAreShares p (answer t p) answers
-  pub mean_grade : MeanGradeIsNearest p (answer t p) answers
+  pub answers : Answered p (answer_to t p)
+  pub kilograms : (m : Measure) → KeepsEveryKilogram t p m (answer_to t p) answers
+  pub reasons : AllByRecursion (TellsWhy t p (answer_to t p) answers) p.investees
+  pub covers : CoversAreShares p (answer_to t p) answers
+  pub mean_grade : MeanGradeIsNearest p (answer_to t p) answers
 
 -- and of one that a run from the empty book has come to, without any condition
 pub record HoldsWhole (t : Tables) (p : PlainBook) : Type 0 where

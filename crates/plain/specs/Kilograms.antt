@@ -1,4 +1,4 @@
--- That no kilogram is gained or lost: how the answers of the four readings lie to the exact shares and to each other.
+-- That no kilogram is gained or lost: how the answers to the queries lie to the exact shares and to each other.
 -- It is a relation between answers, whoever gives them, and says nothing of how they are found.
 use Rattle.std.specs.Prelude.{◌≡◌, ℕ, ◌≤◌, true, false, cond, ◌≢◌, List, ℤ, pos, unsigned_abs}
 use Rattle.std.specs.List.{AllByRecursion}

@@ -1,4 +1,4 @@
--- What the four readings answer, each of both measures. Any other accepted call answers that it is done.
+-- What the queries are answered with, each of both measures. Any other accepted call answers that it is done.
 use Rattle.std.specs.Prelude.{ℕ, ◌*◌, ◌/◌, Bool, true, false, cond, not, ◌&&◌, List, map, reverse, length, ℤ, is_some, Some, None, sum_by, filter, Option, ◌==◌, nat_eq}
 use Rattle.grading.specs.Mean.{mean_of}
 use Rattle.rules.specs.Tables.{Tables}
@@ -16,7 +16,7 @@ use Rattle.plain.specs.Exposures.{positions_on, exposure_to, reason_of, is_count
 use Rattle.plain.specs.Lists.{first_of}
 use Rattle.plain.specs.Parts.{part, total, sheet, book_total}
 use Rattle.plain.specs.PlainBook.{PlainInvestee, PlainBook, id_of, investee_of}
-use Rattle.plain.specs.Steps.{Step, enter, restate, reduce, post, amend, ask_part, ask_total, ask_sheet, ask_book_total}
+use Rattle.plain.specs.Steps.{Query, for_part, for_total, for_sheet, for_book_total, Step, enter, restate, reduce, post, amend, ask}
 
 -- a figure for each measure
 abbrev pub both : (Measure → ℤ) → Kilograms
@@ -32,7 +32,7 @@ part_of t p b x = both (λ m. part (apportionment t p.positions m x) b)
 abbrev pub total_of : Tables → PlainBook → PlainInvestee → InvesteeTotal
 total_of t p x = record { kilograms = both (λ m. total (apportionment t p.positions m x)); reason = reason_of t p.positions x; grade = x.grade }
 
--- a reading of an investee that is not open is declined, and this answer never given
+-- a query for an investee that is not open is declined, and this answer never given
 abbrev pub of_investee : Option PlainInvestee → (PlainInvestee → Answer) → Answer
 of_investee None f = Done
 of_investee (Some x) f = f x
@@ -66,7 +66,7 @@ sheets_of t p = map (sheet_if_any t p) (reverse branches)
 abbrev pub positions_on_all : PlainBook → List PlainInvestee → ℕ
 positions_on_all p xs = sum_by (λ x. length (positions_on (id_of x) p.positions)) xs
 
--- a reading covers an investee if it is counted, and for reductions if one has been set too
+-- a figure covers an investee if it is counted, and for reductions if one has been set too
 abbrev pub covers : Tables → PlainBook → Measure → PlainInvestee → Bool
 covers t p emissions x = is_counted t p.positions x
 covers t p reductions x = is_counted t p.positions x && x.reduced
@@ -75,7 +75,7 @@ covers t p reductions x = is_counted t p.positions x && x.reduced
 abbrev pub hundredths : ℕ → ℕ → Option ℕ
 hundredths k n = cond (n == 0) None (Some (10000 * k / n))
 
--- the share of the positions on these investees that a reading covers
+-- the share of the positions on these investees that a figure covers
 abbrev pub cover_of : Tables → PlainBook → Measure → List PlainInvestee → Option ℕ
 cover_of t p m xs = hundredths (positions_on_all p (filter (covers t p m) xs)) (positions_on_all p xs)
 
@@ -114,6 +114,13 @@ book_total_of t p = record {
 
 -- ---- the answers
 
+-- what each query is answered with, where it is not declined
+abbrev pub reply : Tables → PlainBook → Query → Answer
+reply t p (for_part id branch) = of_investee (investee_of id p) (λ x. Part (part_of t p branch x))
+reply t p (for_total id) = of_investee (investee_of id p) (λ x. Total (total_of t p x))
+reply t p (for_sheet branch) = Sheet (sheet_of t p branch)
+reply t p for_book_total = Book (book_total_of t p)
+
 -- what each accepted call answers
 abbrev pub gives : Tables → PlainBook → Step → Answer
 gives t p (enter fields meaning) = Done
@@ -121,7 +128,4 @@ gives t p (restate id meaning) = Done
 gives t p (reduce id meaning) = Done
 gives t p (post branch id month balance) = Done
 gives t p (amend branch id month balance) = Done
-gives t p (ask_part id branch) = of_investee (investee_of id p) (λ x. Part (part_of t p branch x))
-gives t p (ask_total id) = of_investee (investee_of id p) (λ x. Total (total_of t p x))
-gives t p (ask_sheet branch) = Sheet (sheet_of t p branch)
-gives t p ask_book_total = Book (book_total_of t p)
+gives t p (ask query) = reply t p query

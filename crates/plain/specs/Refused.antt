@@ -15,7 +15,7 @@ use Rattle.plain.specs.Exposures.{is_bond, exposure_to, denominator_of}
 use Rattle.plain.specs.Limits.{most_investees, most_positions, most_balance, most_exposure}
 use Rattle.plain.specs.Parts.{Denominator, at_least, whole}
 use Rattle.plain.specs.PlainBook.{PlainInvestee, PlainPosition, PlainBook, investee_of, is_open, position_of, is_posted}
-use Rattle.plain.specs.Steps.{Meaning, Step, enter, restate, reduce, post, amend, ask_part, ask_total, ask_sheet, ask_book_total}
+use Rattle.plain.specs.Steps.{Meaning, Query, for_part, for_total, for_sheet, for_book_total, Step, enter, restate, reduce, post, amend, ask}
 
 -- ---- how refusals follow one another
 
@@ -78,6 +78,13 @@ below_zero r = refuse (int_lt r.kilograms (pos 0)) ReadingBelowZero None
 
 -- ---- the calls
 
+-- the fault with which a query is declined, or nothing where it is answered
+abbrev pub declined_query : PlainBook → Query → Option Fault
+declined_query p (for_part id branch) = refuse (branch_out_of_range branch) EntryOutOfRange (if_open (investee_of id p) (λ x. None))
+declined_query p (for_total id) = if_open (investee_of id p) (λ x. None)
+declined_query p (for_sheet branch) = refuse (branch_out_of_range branch) EntryOutOfRange None
+declined_query p for_book_total = None
+
 -- the fault with which a call is declined, or nothing where it is accepted
 abbrev pub declined : Tables → PlainBook → Step → Option Fault
 declined t p (enter fields meaning) =
@@ -101,7 +108,4 @@ declined t p (amend branch id month balance) =
     refuse (bond_outside_closing x month) BondOutsideClosingMonth
     (refuse (not (is_posted branch id month p.positions)) MonthNotPosted
     (too_much_lent t x (amended branch id month balance p.positions)))))
-declined t p (ask_part id branch) = refuse (branch_out_of_range branch) EntryOutOfRange (if_open (investee_of id p) (λ x. None))
-declined t p (ask_total id) = if_open (investee_of id p) (λ x. None)
-declined t p (ask_sheet branch) = refuse (branch_out_of_range branch) EntryOutOfRange None
-declined t p ask_book_total = None
+declined t p (ask query) = declined_query p query

@@ -9,7 +9,7 @@ use Rattle.plain.specs.Changes.{changed}
 use Rattle.plain.specs.PlainBook.{PlainBook, empty}
 use Rattle.plain.specs.Readings.{gives}
 use Rattle.plain.specs.Refused.{declined}
-use Rattle.plain.specs.Steps.{Step, WithinSourceLimits}
+use Rattle.plain.specs.Steps.{Query, Step, ask, WithinSourceLimits}
 
 -- x, unless the call is declined
 abbrev pub unless : {X : Type 0} → Option Fault → X → (Fault → X) → X
@@ -23,6 +23,10 @@ after t p c = unless (declined t p c) (changed p c) (λ f. p)
 -- what one call is answered
 abbrev pub answer : Tables → PlainBook → Step → Answer
 answer t p c = unless (declined t p c) (gives t p c) Declined
+
+-- what one query is answered
+abbrev pub answer_to : Tables → PlainBook → Query → Answer
+answer_to t p query = answer t p (ask query)
 
 -- one call after the other
 abbrev pub run : Tables → PlainBook → List Step → PlainBook

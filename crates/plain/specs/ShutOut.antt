@@ -1,4 +1,4 @@
--- Ways of parting a figure that look simpler. Each is shut out for a worked book that a run has come to: no answers to its readings
+-- Ways of parting a figure that look simpler. Each is shut out for a worked book that a run has come to: no answers to its queries
 -- keep every kilogram if their parts are found in that way, whatever total, sheets and book total are answered with them.
 -- Refusals in place of figures are shut out too, and figures that no source has read.
 use Rattle.std.specs.Prelude.{◌≡◌, ℕ, suc, max, true, cond, ◌≢◌, List, [], ◌∷◌, ℤ, pos, Some, ◌==◌}
@@ -15,8 +15,8 @@ use Rattle.plain.specs.Exposures.{emissions, apportionments}
 use Rattle.plain.specs.Parts.{Lent, at_least, Apportionment, exposures, exposure_at, base_of, base}
 use Rattle.plain.specs.PlainBook.{PlainInvestee, PlainBook, empty, investee_of}
 use Rattle.plain.specs.Rounding.{rounded}
-use Rattle.plain.specs.Runs.{answer, run, ReachedByARun}
-use Rattle.plain.specs.Steps.{Step, post, ask_part}
+use Rattle.plain.specs.Runs.{answer_to, run, ReachedByARun}
+use Rattle.plain.specs.Steps.{Query, for_part, post}
 use Rattle.plain.specs.Worked.{accounts, company, reads, lent}
 
 -- ---- books with one investee, that emits 1,000 kg and has a revenue of 10,000 wan
@@ -75,25 +75,25 @@ abbrev pub over_months_posted : ℕ → Way
 over_months_posted w a b = rounded a.figure (exposure_at a.lent b) (max w (exposures a.lent))
 
 -- the answers give each branch its part of each investee in this way
-abbrev pub PartedBy : Way → (p : PlainBook) (ask : Step → Answer) → Answered p ask → Type 0
+abbrev pub PartedBy : Way → (p : PlainBook) (ask : Query → Answer) → Answered p ask → Type 0
 PartedBy way p ask answers = AllByRecursion (λ a. (b : ℕ) → Branch b → (answers.part_of a.id b).emissions ≡ way a b) (apportionments national_tables p emissions)
 
 -- somebody answers the readings of the book in this way
 abbrev pub PartedBySome : Way → PlainBook → Type 0
-PartedBySome way p = (ask : Step → Answer) × (answers : Answered p ask) × PartedBy way p ask answers
+PartedBySome way p = (ask : Query → Answer) × (answers : Answered p ask) × PartedBy way p ask answers
 
 -- the emissions that such answers tell are not kept
-abbrev pub Loses : (p : PlainBook) (ask : Step → Answer) → Answered p ask → Type 0
+abbrev pub Loses : (p : PlainBook) (ask : Query → Answer) → Answered p ask → Type 0
 Loses p ask answers = KeepsEveryKilogram national_tables p emissions ask answers → ⊥
 
 -- and then they gain or lose a kilogram
 abbrev pub GainsOrLoses : PlainBook → Way → Type 0
-GainsOrLoses p way = (ask : Step → Answer) (answers : Answered p ask) → PartedBy way p ask answers → Loses p ask answers
+GainsOrLoses p way = (ask : Query → Answer) (answers : Answered p ask) → PartedBy way p ask answers → Loses p ask answers
 
 -- ---- refusals in place of figures
 
-abbrev pub DeclinesEverything : (Step → Answer) → Type 0
-DeclinesEverything ask = (c : Step) → (f : Fault) × (ask c ≡ Declined f)
+abbrev pub DeclinesEverything : (Query → Answer) → Type 0
+DeclinesEverything ask = (query : Query) → (f : Fault) × (ask query ≡ Declined f)
 
 -- ---- figures that no source has read
 
@@ -120,11 +120,11 @@ pub record SimplerAnswersShutOut : Type 0 where
   -- there are such answers, whatever the way, so that none of these statements is empty
   pub each_way_has_answers : (way : Way) → AllByRecursion (PartedBySome way) (thirds ∷ unequal ∷ four_months ∷ [])
   -- refusals are no answers, be it all of them, or one for the part of one branch
-  pub everything_declined : (p : PlainBook) (ask : Step → Answer) → DeclinesEverything ask → Answered p ask → ⊥
-  pub one_part_declined : (ask : Step → Answer) (f : Fault) → ask (ask_part 7 2) ≡ Declined f → Answered thirds ask → ⊥
+  pub everything_declined : (p : PlainBook) (ask : Query → Answer) → DeclinesEverything ask → Answered p ask → ⊥
+  pub one_part_declined : (ask : Query → Answer) (f : Fault) → ask (for_part 7 2) ≡ Declined f → Answered thirds ask → ⊥
   -- all is lent to the investee, so that its total is what the source has read: no other is, nor are the answers of a book with another figure
-  pub another_total : (ask : Step → Answer) (answers : Answered thirds ask) → (answers.total_of 7).kilograms.emissions ≢ pos 1000 → Loses thirds ask answers
-  pub a_book_with_another_figure_answers : Answered thirds (answer national_tables thirds_of_999)
-  pub answers_of_a_book_with_another_figure : (answers : Answered thirds (answer national_tables thirds_of_999)) → Loses thirds (answer national_tables thirds_of_999) answers
+  pub another_total : (ask : Query → Answer) (answers : Answered thirds ask) → (answers.total_of 7).kilograms.emissions ≢ pos 1000 → Loses thirds ask answers
+  pub a_book_with_another_figure_answers : Answered thirds (answer_to national_tables thirds_of_999)
+  pub answers_of_a_book_with_another_figure : (answers : Answered thirds (answer_to national_tables thirds_of_999)) → Loses thirds (answer_to national_tables thirds_of_999) answers
   -- and no such book comes of the opening
   pub a_book_with_another_figure : (q : PlainBook) (x : PlainInvestee) → investee_of 7 q ≡ Some x → x.kilograms ≢ pos 1000 → OpenedWith1000 q → ⊥

@@ -1,4 +1,4 @@
--- The nine calls on a book, with a source's meaning in place of the source, and numbers as a caller sends them.
+-- The calls on a book, with a source's meaning in place of the source, and numbers as a caller sends them.
 use Rattle.std.specs.Prelude.{ℕ, Result}
 use Rattle.faults.specs.declared.Fault.{Fault}
 use Rattle.rules.specs.declared.investees.InvesteeFields.{InvesteeFields}
@@ -8,6 +8,17 @@ use Rattle.sources.specs.declared.reading.Reading.{Reading}
 -- one reading or one fault
 abbrev pub Meaning : Type 0
 Meaning = Result Reading Fault
+
+-- what a book is asked, of both measures
+pub data Query : Type 0 where
+  -- what falls to one branch for one investee
+  for_part : (id branch : ℕ) → Query
+  -- what falls to all branches for one investee
+  for_total : (id : ℕ) → Query
+  -- what falls to one branch for all investees
+  for_sheet : (branch : ℕ) → Query
+  -- what falls to all branches for all investees
+  for_book_total : Query
 
 pub data Step : Type 0 where
   -- opens an investee with a reading of its emissions
@@ -20,14 +31,8 @@ pub data Step : Type 0 where
   post : (branch id month balance : ℕ) → Step
   -- replaces the balance of a month that has one
   amend : (branch id month balance : ℕ) → Step
-  -- what falls to one branch for one investee
-  ask_part : (id branch : ℕ) → Step
-  -- what falls to all branches for one investee
-  ask_total : (id : ℕ) → Step
-  -- what falls to one branch for all investees
-  ask_sheet : (branch : ℕ) → Step
-  -- what falls to all branches for all investees
-  ask_book_total : Step
+  -- changes nothing
+  ask : Query → Step
 
 -- the meaning of the call's source is within the limits that every source keeps to
 abbrev pub WithinSourceLimits : Step → Type 0
@@ -36,7 +41,4 @@ WithinSourceLimits (restate id meaning) = WithinLimits meaning
 WithinSourceLimits (reduce id meaning) = WithinLimits meaning
 WithinSourceLimits (post branch id month balance) = Unit {0}
 WithinSourceLimits (amend branch id month balance) = Unit {0}
-WithinSourceLimits (ask_part id branch) = Unit {0}
-WithinSourceLimits (ask_total id) = Unit {0}
-WithinSourceLimits (ask_sheet branch) = Unit {0}
-WithinSourceLimits ask_book_total = Unit {0}
+WithinSourceLimits (ask query) = Unit {0}

@@ -16,8 +16,8 @@ use Rattle.plain.specs.declared.answers.Answer.{Answer}
 use Rattle.plain.specs.declared.answers.Answer.TheVariants.{Done, Declined, Part, Total}
 use Rattle.plain.specs.declared.answers.Kilograms.{Kilograms}
 use Rattle.plain.specs.PlainBook.{PlainBook, empty}
-use Rattle.plain.specs.Runs.{answer, run}
-use Rattle.plain.specs.Steps.{Meaning, Step, enter, reduce, post, ask_part, ask_total}
+use Rattle.plain.specs.Runs.{answer, answer_to, run}
+use Rattle.plain.specs.Steps.{Meaning, for_part, for_total, Step, enter, reduce, post}
 
 -- ---- a medium-sized company with a general loan outstanding for 200 days, and a revenue of 10,000 wan
 
@@ -42,7 +42,7 @@ lent kilograms balances = run national_tables empty (enter (company 5 (accounts 
 
 -- what the parts of these branches on 7 are
 abbrev pub parts_asked : PlainBook → List ℕ → List Answer
-parts_asked p branches = map (λ b. answer national_tables p (ask_part 7 b)) branches
+parts_asked p branches = map (λ b. answer_to national_tables p (for_part 7 b)) branches
 
 abbrev pub kilograms : ℤ → ℤ → Kilograms
 kilograms e r = record { emissions = e; reductions = r }
@@ -83,9 +83,9 @@ pub record WorkedCases : Type 0 where
   -- more is lent than the denominator, so the exposures are the base
   pub exposures_120000_and_60000 : parts_asked (lent (pos 1000) (120000 ∷ 60000 ∷ [])) (1 ∷ 2 ∷ []) ≡ emitted (pos 666) ∷ emitted (pos 334) ∷ []
   pub halves_of_1 : parts_asked (lent (pos 1) (60000 ∷ 60000 ∷ [])) (1 ∷ 2 ∷ []) ≡ emitted (pos 0) ∷ emitted (pos 1) ∷ []
-  pub exposure_6000 : answer national_tables (lent (pos 1000) (6000 ∷ [])) (ask_total 7) ≡ totalled (pos 50) 0
+  pub exposure_6000 : answer_to national_tables (lent (pos 1000) (6000 ∷ [])) (for_total 7) ≡ totalled (pos 50) 0
   -- a small loan is left out, for reason 2
-  pub exposure_5999 : answer national_tables (lent (pos 1000) (5999 ∷ [])) (ask_total 7) ≡ totalled (pos 0) 2
+  pub exposure_5999 : answer_to national_tables (lent (pos 1000) (5999 ∷ [])) (for_total 7) ≡ totalled (pos 0) 2
   -- 1,000 kWh of power elsewhere and a litre of diesel
   pub energy_bill : physical_meaning (activity 6 1000 ∷ activity 3 1 ∷ []) ≡ Ok (reading (pos 573) 3)
   -- over a reading of 1,050 kg

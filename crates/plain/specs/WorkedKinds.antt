@@ -10,8 +10,8 @@ use Rattle.plain.specs.declared.answers.InvesteeTotal.{InvesteeTotal}
 use Rattle.plain.specs.declared.answers.Kilograms.{Kilograms}
 use Rattle.plain.specs.PlainBook.{PlainBook, empty}
 use Rattle.plain.specs.Readings.{accounts_of, sheets_of}
-use Rattle.plain.specs.Runs.{answer, answered, run}
-use Rattle.plain.specs.Steps.{Meaning, Step, enter, restate, reduce, post, amend, ask_part, ask_total, ask_sheet, ask_book_total}
+use Rattle.plain.specs.Runs.{answered, answer_to, run}
+use Rattle.plain.specs.Steps.{Meaning, Step, enter, restate, reduce, post, amend, Query, for_part, for_total, for_sheet, for_book_total}
 use Rattle.plain.specs.Worked.{kilograms}
 use Rattle.plain.specs.WorkedYear.{subtotal}
 
@@ -65,12 +65,12 @@ calls =
 abbrev pub book_of_kinds : PlainBook
 book_of_kinds = run pudong_tables empty calls
 
-abbrev pub of_kinds : Step → Answer
-of_kinds c = answer pudong_tables book_of_kinds c
+abbrev pub of_kinds : Query → Answer
+of_kinds query = answer_to pudong_tables book_of_kinds query
 
 -- the parts of branches 1 and 40 on an investee, and its total
 abbrev pub told_of : ℕ → List Answer
-told_of id = map of_kinds (ask_part id 1 ∷ ask_part id 40 ∷ ask_total id ∷ [])
+told_of id = map of_kinds (for_part id 1 ∷ for_part id 40 ∷ for_total id ∷ [])
 
 -- emissions and reduction
 abbrev pub measures : ℕ → ℕ → Kilograms
@@ -107,10 +107,10 @@ pub record WorkedKinds : Type 0 where
   pub general_loan : told_of 15 ≡ part 1000 120 ∷ part 2000 240 ∷ total 3000 360 0 1 ∷ []
   -- 12 times 1,000, of 12 × 2,000
   pub bond : told_of 16 ≡ part 0 0 ∷ part 4000 0 ∷ total 4000 0 0 5 ∷ []
-  pub sheets : map of_kinds (ask_sheet 1 ∷ ask_sheet 7 ∷ ask_sheet 40 ∷ []) ≡ sheet 2034 150 ∷ sheet 0 0 ∷ sheet 6666 300 ∷ []
+  pub sheets : map of_kinds (for_sheet 1 ∷ for_sheet 7 ∷ for_sheet 40 ∷ []) ≡ sheet 2034 150 ∷ sheet 0 0 ∷ sheet 6666 300 ∷ []
   -- Of ten positions two are on the project, and two on the investee that is left out; a reduction is set for five of the other eight.
   -- The grades 2, 3, 4, 1 and 5 weigh 9,000, 12,000, 9,000, 18,000 and 12,000, so that their mean is 168,000 / 60,000.
-  pub book_total : of_kinds ask_book_total ≡ Book (record {
+  pub book_total : of_kinds for_book_total ≡ Book (record {
     projects = subtotal (pos 900) (pos 90) (Some 10000) (Some 10000);
     rest = subtotal (pos 7800) (pos 360) (Some 7500) (Some 3750);
     all = subtotal (pos 8700) (pos 450) (Some 8000) (Some 5000);

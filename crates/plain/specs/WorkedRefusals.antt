@@ -10,7 +10,7 @@ use Rattle.plain.specs.declared.answers.Answer.TheVariants.{Done, Declined, Part
 use Rattle.plain.specs.Branches.{branch_count}
 use Rattle.plain.specs.PlainBook.{PlainBook}
 use Rattle.plain.specs.Runs.{answer, run}
-use Rattle.plain.specs.Steps.{Meaning, Step, enter, restate, reduce, post, amend, ask_part, ask_total, ask_sheet}
+use Rattle.plain.specs.Steps.{Meaning, for_part, for_total, for_sheet, Step, enter, restate, reduce, post, amend, ask}
 use Rattle.plain.specs.Sums.{down_from}
 use Rattle.plain.specs.Worked.{accounts, reads, lent, bond}
 
@@ -143,8 +143,8 @@ amendments_of_a_bond = (amend 1 7 11 900000, 21) ∷ (amend 1 7 12 900000, 23) �
 abbrev pub amendments_of_a_lent_bond : List (Step × ℕ)
 amendments_of_a_lent_bond = (amend 1 7 11 900000, 21) ∷ (amend 1 7 12 750001, 25) ∷ (amend 1 7 12 750000, 26) ∷ (amend 1 7 12 1001, 26) ∷ (amend 1 7 12 1000, 0) ∷ []
 
-abbrev pub questions : List (Step × ℕ)
-questions = (ask_part 9 41, 20) ∷ (ask_part 9 40, 16) ∷ (ask_part 7 40, 0) ∷ (ask_total 9, 16) ∷ (ask_total 7, 0) ∷ (ask_sheet 41, 20) ∷ (ask_sheet 40, 0) ∷ []
+abbrev pub queries : List (Step × ℕ)
+queries = (ask (for_part 9 41), 20) ∷ (ask (for_part 9 40), 16) ∷ (ask (for_part 7 40), 0) ∷ (ask (for_total 9), 16) ∷ (ask (for_total 7), 0) ∷ (ask (for_sheet 41), 20) ∷ (ask (for_sheet 40), 0) ∷ []
 
 pub record WorkedRefusals : Type 0 where
   pub when_opening : DeclinedWith national_tables loan openings
@@ -160,6 +160,6 @@ pub record WorkedRefusals : Type 0 where
   pub when_amending : DeclinedWith national_tables loan amendments
   pub when_amending_a_bond : DeclinedWith pudong_tables bond amendments_of_a_bond
   pub when_amending_a_lent_bond : DeclinedWith pudong_tables (run pudong_tables bond (post 1 7 12 1000 ∷ [])) amendments_of_a_lent_bond
-  pub when_asking : DeclinedWith national_tables loan questions
+  pub when_asking : DeclinedWith national_tables loan queries
   -- a fault that a caller's own source means is passed on with its place and its source
   pub a_source's_fault_unchanged : answer national_tables loan (restate 7 fails) ≡ Declined (fault (Custom 77) 3 12)

@@ -1,4 +1,4 @@
--- A worked year: openings, a restatement, a reduction, posts and an amendment, and what the four readings answer.
+-- A worked year: openings, a restatement, a reduction, posts and an amendment, and what the queries are answered.
 use Rattle.std.specs.Prelude.{◌≡◌, ℕ, List, [], ◌∷◌, map, ℤ, pos, neg_ℤ, Some, None, Ok, Option}
 use Rattle.rules.specs.National.{national_tables}
 use Rattle.rules.specs.Pudong.{pudong_tables}
@@ -8,8 +8,8 @@ use Rattle.plain.specs.declared.answers.Answer.{Answer}
 use Rattle.plain.specs.declared.answers.Answer.TheVariants.{Done, Part, Total, Sheet, Book}
 use Rattle.plain.specs.declared.answers.Subtotal.{Subtotal}
 use Rattle.plain.specs.PlainBook.{PlainBook, empty}
-use Rattle.plain.specs.Runs.{answer, answered, run}
-use Rattle.plain.specs.Steps.{Step, enter, restate, reduce, post, amend, ask_part, ask_total, ask_sheet, ask_book_total}
+use Rattle.plain.specs.Runs.{answer_to, answered, run}
+use Rattle.plain.specs.Steps.{Query, for_part, for_total, for_sheet, for_book_total, Step, enter, restate, reduce, post, amend}
 use Rattle.plain.specs.Worked.{accounts, company, kilograms, reads, totalled}
 
 -- 7 and 9 are general loans to companies with a revenue of 10,000 wan, and 8 a project with an investment of 1,000 wan
@@ -39,8 +39,8 @@ year =
     ∷ []
 
 -- what the book answers at the end of the year
-abbrev pub of_year : Step → Answer
-of_year c = answer national_tables (run national_tables empty year) c
+abbrev pub of_year : Query → Answer
+of_year query = answer_to national_tables (run national_tables empty year) query
 
 -- kilograms of both measures, and the shares of positions that they cover
 abbrev pub subtotal : ℤ → ℤ → Option ℕ → Option ℕ → Subtotal
@@ -57,18 +57,18 @@ repaid = run pudong_tables empty (enter (company 5 (accounts 0 10000)) (reads (p
 pub record WorkedYear : Type 0 where
   pub every_call_accepted : answered national_tables empty year ≡ Done ∷ Done ∷ Done ∷ Done ∷ Done ∷ Done ∷ Done ∷ Done ∷ Done ∷ Done ∷ Done ∷ []
   -- 1,000 × 200,000 / 1,194,000 = 167.5, and −50 × 200,000 / 1,194,000 = −8.4; branch 2 posted first
-  pub parts : map (λ b. of_year (ask_part 7 b)) (1 ∷ 2 ∷ 3 ∷ []) ≡ Part (kilograms (pos 833) (neg_ℤ (pos 42))) ∷ Part (kilograms (pos 167) (neg_ℤ (pos 8))) ∷ Part (kilograms (pos 0) (pos 0)) ∷ []
-  pub total_of_the_loan : of_year (ask_total 7) ≡ Total (record { kilograms = kilograms (pos 1000) (neg_ℤ (pos 50)); reason = 0; grade = 1 })
-  pub total_of_the_project : of_year (ask_total 8) ≡ Total (record { kilograms = kilograms (pos 300) (pos 0); reason = 0; grade = 2 })
-  pub total_of_the_small_loan : of_year (ask_total 9) ≡ Total (record { kilograms = kilograms (pos 0) (pos 0); reason = 2; grade = 5 })
-  pub sheets : map (λ b. of_year (ask_sheet b)) (1 ∷ 2 ∷ []) ≡ Sheet (kilograms (pos 833) (neg_ℤ (pos 42))) ∷ Sheet (kilograms (pos 467) (neg_ℤ (pos 8))) ∷ []
+  pub parts : map (λ b. of_year (for_part 7 b)) (1 ∷ 2 ∷ 3 ∷ []) ≡ Part (kilograms (pos 833) (neg_ℤ (pos 42))) ∷ Part (kilograms (pos 167) (neg_ℤ (pos 8))) ∷ Part (kilograms (pos 0) (pos 0)) ∷ []
+  pub total_of_the_loan : of_year (for_total 7) ≡ Total (record { kilograms = kilograms (pos 1000) (neg_ℤ (pos 50)); reason = 0; grade = 1 })
+  pub total_of_the_project : of_year (for_total 8) ≡ Total (record { kilograms = kilograms (pos 300) (pos 0); reason = 0; grade = 2 })
+  pub total_of_the_small_loan : of_year (for_total 9) ≡ Total (record { kilograms = kilograms (pos 0) (pos 0); reason = 2; grade = 5 })
+  pub sheets : map (λ b. of_year (for_sheet b)) (1 ∷ 2 ∷ []) ≡ Sheet (kilograms (pos 833) (neg_ℤ (pos 42))) ∷ Sheet (kilograms (pos 467) (neg_ℤ (pos 8))) ∷ []
   -- of the four positions three are on counted investees, and two of these have a reduction set; the grades weigh 1,194,000 and 6,000
-  pub book_total : of_year ask_book_total ≡ Book (record {
+  pub book_total : of_year for_book_total ≡ Book (record {
     projects = subtotal (pos 300) (pos 0) (Some 10000) (Some 0);
     rest = subtotal (pos 1000) (neg_ℤ (pos 50)) (Some 6666) (Some 6666);
     all = subtotal (pos 1300) (neg_ℤ (pos 50)) (Some 7500) (Some 5000);
     mean_grade = Some 101;
   })
-  pub book_total_of_an_empty_book : answer national_tables empty ask_book_total ≡ Book (record { projects = nothing; rest = nothing; all = nothing; mean_grade = None })
-  pub repaid_before_the_last_month : answer pudong_tables repaid (ask_total 7) ≡ totalled (pos 0) 4
-  pub not_repaid : answer pudong_tables (run pudong_tables repaid (post 1 7 12 60000 ∷ [])) (ask_total 7) ≡ totalled (pos 1000) 0
+  pub book_total_of_an_empty_book : answer_to national_tables empty for_book_total ≡ Book (record { projects = nothing; rest = nothing; all = nothing; mean_grade = None })
+  pub repaid_before_the_last_month : answer_to pudong_tables repaid (for_total 7) ≡ totalled (pos 0) 4
+  pub not_repaid : answer_to pudong_tables (run pudong_tables repaid (post 1 7 12 60000 ∷ [])) (for_total 7) ≡ totalled (pos 1000) 0
