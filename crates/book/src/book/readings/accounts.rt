@@ -3,8 +3,8 @@ ghost use Rattle.std.specs.Prelude.{◌≡◌, slice_get};
 ghost use Rattle.plain.specs.declared.answers.Answer.TheVariants.{Part, Total};
 ghost use Rattle.plain.specs.Limits.{most_investees};
 ghost use Rattle.plain.specs.Readings.{account_of, accounts_of};
-ghost use Rattle.plain.specs.Runs.{answer};
-ghost use Rattle.plain.specs.Steps.{ask_part, ask_total};
+ghost use Rattle.plain.specs.Runs.{answer_to};
+ghost use Rattle.plain.specs.Steps.{for_part, for_total};
 ghost use Rattle.book.specs.Listed.{listed};
 ghost use Rattle.book.specs.Rows.{plain_investee};
 ghost use Rattle.plain.specs.Told.{told};
@@ -33,7 +33,7 @@ impl<'b, 'r, R: Rule> Held<'b, 'r, R> {
 impl<'r, R: Rule> Book<'r, R> {
     // What falls to one branch for one investee.
     pub fn part(&self, id: u64, branch: u64) -> Result<Kilograms, Fault>
-        ensures { told Part result ≡ answer (R.tables self.now.rule.now) (plain self.now) (ask_part id branch) }
+        ensures { told Part result ≡ answer_to (R.tables self.now.rule.now) (plain self.now) (for_part id branch) }
     {
         if branch_out_of_range(branch) {
             return Err(Fault::plain(Refusal::EntryOutOfRange));
@@ -44,7 +44,7 @@ impl<'r, R: Rule> Book<'r, R> {
 
     // What falls to all branches for one investee, the reason for which it is left out, or 0, and its grade.
     pub fn total(&self, id: u64) -> Result<InvesteeTotal, Fault>
-        ensures { told Total result ≡ answer (R.tables self.now.rule.now) (plain self.now) (ask_total id) }
+        ensures { told Total result ≡ answer_to (R.tables self.now.rule.now) (plain self.now) (for_total id) }
     {
         let row = self.investee(id)?;
         Ok(Held { book: self, row }.total())

@@ -3,8 +3,8 @@ ghost use Rattle.std.specs.Prelude.{◌≡◌, ℕ, ◌+◌, ◌<◌, length, if
 ghost use Rattle.plain.specs.Branches.{branch_count};
 ghost use Rattle.plain.specs.declared.answers.Answer.TheVariants.{Sheet};
 ghost use Rattle.plain.specs.Readings.{has_position, part_of, sheet_of, sheets_of};
-ghost use Rattle.plain.specs.Runs.{answer};
-ghost use Rattle.plain.specs.Steps.{ask_sheet};
+ghost use Rattle.plain.specs.Runs.{answer_to};
+ghost use Rattle.plain.specs.Steps.{for_sheet};
 ghost use Rattle.book.specs.Rows.{plain_investee};
 ghost use Rattle.book.specs.Shares.{no_kilograms};
 ghost use Rattle.book.specs.Standings.{RoomForParts, WithParts};
@@ -53,7 +53,7 @@ impl<'r, R: Rule> Book<'r, R> {
 
     // What falls to one branch for all investees.
     pub fn sheet(&self, branch: u64) -> Result<Kilograms, Fault>
-        ensures { told Sheet result ≡ answer (R.tables self.now.rule.now) (plain self.now) (ask_sheet branch) }
+        ensures { told Sheet result ≡ answer_to (R.tables self.now.rule.now) (plain self.now) (for_sheet branch) }
     {
         if branch_out_of_range(branch) {
             return Err(Fault::plain(Refusal::EntryOutOfRange));

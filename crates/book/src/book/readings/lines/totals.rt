@@ -1,8 +1,8 @@
 // The book total.
 ghost use Rattle.std.specs.Prelude.{◌≡◌, map, length, slice_index_or, take};
 ghost use Rattle.plain.specs.declared.answers.Answer.TheVariants.{Book as BookAnswer};
-ghost use Rattle.plain.specs.Runs.{answer};
-ghost use Rattle.plain.specs.Steps.{ask_book_total};
+ghost use Rattle.plain.specs.Runs.{answer_to};
+ghost use Rattle.plain.specs.Steps.{for_book_total};
 ghost use Rattle.book.specs.Lines.{line_of, no_line};
 ghost use Rattle.book.specs.Rows.{plain_investee};
 ghost use Rattle.book.specs.View.{plain};
@@ -55,7 +55,7 @@ impl<'r, R: Rule> Book<'r, R> {
     // What falls to all branches for all investees: for projects, for the rest and for all, with the shares of the
     // positions that this covers, and the mean grade.
     pub fn book_total(&self) -> BookTotal
-        ensures { BookAnswer result ≡ answer (R.tables self.now.rule.now) (plain self.now) ask_book_total }
+        ensures { BookAnswer result ≡ answer_to (R.tables self.now.rule.now) (plain self.now) for_book_total }
     {
         let table = self.lines();
         let lines = &table[0..self.investees.len()];
