@@ -88,7 +88,7 @@ pub record Entered (t : Tables) (p : PlainBook) (b id m v : ℕ) (is_posted_alre
   pub found : investee_of id p ≡ Some investee
   pub in_closing_month : bond_outside_closing investee m ≡ false
   pub was-posted : is_posted b id m p.positions ≡ is_posted_already
-  pub not-too-much : too_much_lent t investee qs ≡ None
+  pub not-too-much : too_much_lent t p investee qs ≡ None
 
 pub posted-none : (t : Tables) (p : PlainBook) (b id m v : ℕ) → declined t p (post b id m v) ≡ None → Entered t p b id m v false (posted b id m v p.positions) × (no_room_for b id p.positions ≡ false)
 posted-none t p b id m v e =

@@ -121,11 +121,11 @@ module _ (id : ℕ) (p : PlainBook) (x : PlainInvestee) (found : investee_of id 
       (Decides-and (is_bond x.profile.kind) (not (eqb m months)) (bond-is x.profile.kind) (Decides-not (eqb m months) (eqb-true m months, eq-eqb m months))) rest
 
   due-lent : (t : Tables) (qs : List PlainPosition)
-      → FirstDue ((ExposureTooLarge due_if OfOpen id p (λ y. most_exposure < exposure_to y qs)) ∷ (BondAboveDenominator due_if OfOpen id p (BondPasses t qs)) ∷ []) (too_much_lent t x qs)
+      → FirstDue ((ExposureTooLarge due_if OfOpen id p (λ y. most_exposure < exposure_to y qs)) ∷ (BondAboveDenominator due_if OfOpen id p (BondPasses t p qs)) ∷ []) (too_much_lent t p x qs)
   due-lent t qs =
       due-found (λ y. most_exposure < exposure_to y qs) ExposureTooLarge _ _ (Decides-ltb most_exposure (exposure_to x qs))
-      (due-found (BondPasses t qs) BondAboveDenominator None []
-      (Decides-and (is_bond x.profile.kind) (passes (exposure_to x qs) (denominator_of t x)) (bond-is x.profile.kind) (passed (exposure_to x qs) (denominator_of t x))) none-due)
+      (due-found (BondPasses t p qs) BondAboveDenominator None []
+      (Decides-and (is_bond x.profile.kind) (passes (exposure_to x qs) (denominator_of t p x)) (bond-is x.profile.kind) (passed (exposure_to x qs) (denominator_of t p x))) none-due)
 
 -- ---- openings
 

@@ -64,7 +64,7 @@ once_per_branch p ok x = record {
   branches_differ = lent-differ x.profile.kind (id_of x) p.positions ok.positions_differ;
 }
 
-orderly-each : (t : Tables) → Lawful t → (p : PlainBook) (m : Measure) → KeptByEveryRun p → AllByRecursion (λ x. Orderly (apportionment t p.positions m x)) p.investees
+orderly-each : (t : Tables) → Lawful t → (p : PlainBook) (m : Measure) → KeptByEveryRun p → AllByRecursion (λ x. Orderly (apportionment t p m x)) p.investees
 orderly-each t lawful p m ok =
     All-weaker _ _ (λ x h. record {
       once_per_branch = once_per_branch p ok x;
@@ -72,7 +72,7 @@ orderly-each t lawful p m ok =
     }) p.investees ok.investees_in_range
 
 orderly : (t : Tables) → Lawful t → (p : PlainBook) (m : Measure) → KeptByEveryRun p → AllByRecursion Orderly (apportionments t p m)
-orderly t lawful p m ok = All-map Orderly (apportionment t p.positions m) p.investees (orderly-each t lawful p m ok)
+orderly t lawful p m ok = All-map Orderly (apportionment t p m) p.investees (orderly-each t lawful p m ok)
 
 -- ---- the answers
 
@@ -140,39 +140,39 @@ projects-by-number : is_project ≡ is_of_kind Project
 projects-by-number = fun_ext (λ x. kind-numbers x.profile.kind)
 
 module _ (t : Tables) (p : PlainBook) (m : Measure) where
-  part-answered : (x : PlainInvestee) → investee_of (id_of x) p ≡ Some x → (b : ℕ) → measured m ((all-answered t p).part_of (id_of x) b) ≡ part (apportionment t p.positions m x) b
-  part-answered x found b = rw found (measured-both m (λ m. part (apportionment t p.positions m x) b))
+  part-answered : (x : PlainInvestee) → investee_of (id_of x) p ≡ Some x → (b : ℕ) → measured m ((all-answered t p).part_of (id_of x) b) ≡ part (apportionment t p m x) b
+  part-answered x found b = rw found (measured-both m (λ m. part (apportionment t p m x) b))
 
-  total-answered : (x : PlainInvestee) → investee_of (id_of x) p ≡ Some x → measured m ((all-answered t p).total_of (id_of x)).kilograms ≡ total (apportionment t p.positions m x)
-  total-answered x found = rw found (measured-both m (λ m. total (apportionment t p.positions m x)))
+  total-answered : (x : PlainInvestee) → investee_of (id_of x) p ≡ Some x → measured m ((all-answered t p).total_of (id_of x)).kilograms ≡ total (apportionment t p m x)
+  total-answered x found = rw found (measured-both m (λ m. total (apportionment t p m x)))
 
   answered-as-defined : KeptByEveryRun p
       → AnsweredAsDefined (apportionments t p m)
       (λ id branch. measured m ((all-answered t p).part_of id branch)) (λ id. measured m ((all-answered t p).total_of id).kilograms)
       (λ branch. measured m ((all-answered t p).sheet_of branch)) (measured m (all-answered t p).book_total.all.kilograms)
   answered-as-defined ok = record {
-    parts = All-map _ (apportionment t p.positions m) p.investees (All-weaker _ _ (λ x found b branch. part-answered x found b) p.investees (found-by-key id_of p.investees ok.ids_differ));
-    totals = All-map _ (apportionment t p.positions m) p.investees (All-weaker _ _ (λ x. total-answered x) p.investees (found-by-key id_of p.investees ok.ids_differ));
+    parts = All-map _ (apportionment t p m) p.investees (All-weaker _ _ (λ x found b branch. part-answered x found b) p.investees (found-by-key id_of p.investees ok.ids_differ));
+    totals = All-map _ (apportionment t p m) p.investees (All-weaker _ _ (λ x. total-answered x) p.investees (found-by-key id_of p.investees ok.ids_differ));
     sheets = λ b branch. measured-both m (λ m. sheet (apportionments t p m) b);
     book_total = measured-both m (λ m. book_total (apportionments t p m));
   }
 
   -- projects and the rest
-  subtotals-add : book_total (map (apportionment t p.positions m) (filter is_project p.investees)) +ℤ book_total (map (apportionment t p.positions m) (filter (λ x. not (is_project x)) p.investees)) ≡ book_total (apportionments t p m)
+  subtotals-add : book_total (map (apportionment t p m) (filter is_project p.investees)) +ℤ book_total (map (apportionment t p m) (filter (λ x. not (is_project x)) p.investees)) ≡ book_total (apportionments t p m)
   subtotals-add =
-      ap₂ ◌+ℤ◌ (sum-map (apportionment t p.positions m) (filter is_project p.investees) total) (sum-map (apportionment t p.positions m) (filter (λ x. not (is_project x)) p.investees) total)
-      ∙ sum-split is_project (λ x. total (apportionment t p.positions m x)) p.investees ∙ sym (sum-map (apportionment t p.positions m) p.investees total)
+      ap₂ ◌+ℤ◌ (sum-map (apportionment t p m) (filter is_project p.investees) total) (sum-map (apportionment t p m) (filter (λ x. not (is_project x)) p.investees) total)
+      ∙ sum-split is_project (λ x. total (apportionment t p m x)) p.investees ∙ sym (sum-map (apportionment t p m) p.investees total)
 
 -- what is told for a group of the investees
 group-adds-up : (t : Tables) → Lawful t → (p : PlainBook) → KeptByEveryRun p → (m : Measure) (test : PlainInvestee → Bool)
     → GroupAddsUp t p m (answer_to t p) (all-answered t p) (filter test p.investees) (measured m (subtotal_of t p (filter test p.investees)).kilograms)
 group-adds-up t lawful p ok m test =
     let group = filter test p.investees in
-    rw (measured-both m (λ n. book_total (map (apportionment t p.positions n) group))) (record {
+    rw (measured-both m (λ n. book_total (map (apportionment t p n) group))) (record {
       totals_add_up =
-          sum-all group _ (λ x. total (apportionment t p.positions m x)) (All-weaker _ _ (λ x. total-answered t p m x) group (all_kept_by test _ p.investees (found-by-key id_of p.investees ok.ids_differ)))
-          ∙ sym (sum-map (apportionment t p.positions m) group total);
-      near_exact_sum = book-near (map (apportionment t p.positions m) group) (All-map Orderly (apportionment t p.positions m) group (all_kept_by test _ p.investees (orderly-each t lawful p m ok)));
+          sum-all group _ (λ x. total (apportionment t p m x)) (All-weaker _ _ (λ x. total-answered t p m x) group (all_kept_by test _ p.investees (found-by-key id_of p.investees ok.ids_differ)))
+          ∙ sym (sum-map (apportionment t p m) group total);
+      near_exact_sum = book-near (map (apportionment t p m) group) (All-map Orderly (apportionment t p m) group (all_kept_by test _ p.investees (orderly-each t lawful p m ok)));
     })
 
 both-add : (m : Measure) (f g h : Measure → ℤ) → ((n : Measure) → f n +ℤ g n ≡ h n) → measured m (both f) +ℤ measured m (both g) ≡ measured m (both h)
@@ -187,8 +187,8 @@ kilograms-at t lawful p ok m = record {
   rest_adds_up =
       subst (λ (test : PlainInvestee → Bool). GroupAddsUp t p m (answer_to t p) (all-answered t p) (filter (λ x. not (test x)) p.investees) (measured m (subtotal_of t p (filter (λ x. not (is_project x)) p.investees)).kilograms))
       projects-by-number (group-adds-up t lawful p ok m (λ x. not (is_project x)));
-  projects_and_rest_make_all = both-add m (λ n. book_total (map (apportionment t p.positions n) (filter is_project p.investees)))
-      (λ n. book_total (map (apportionment t p.positions n) (filter (λ x. not (is_project x)) p.investees))) _ (subtotals-add t p);
+  projects_and_rest_make_all = both-add m (λ n. book_total (map (apportionment t p n) (filter is_project p.investees)))
+      (λ n. book_total (map (apportionment t p n) (filter (λ x. not (is_project x)) p.investees))) _ (subtotals-add t p);
 }
 
 -- ---- reasons, covers and the mean grade
@@ -226,24 +226,24 @@ module _ (t : Tables) (p : PlainBook) where
     reason_is_the_rule's = rw found refl;
     reason_in_range = rw found (reason-in-range t lawful x p.positions range.profile_in_range kept.positions_in_range most);
     grade_is_the_reading's = rw found refl;
-    no_part_with_a_reason = λ why b branch m. part-answered t p m x found b ∙ part-uncounted (apportionment t p.positions m x) b (uncounted why);
+    no_part_with_a_reason = λ why b branch m. part-answered t p m x found b ∙ part-uncounted (apportionment t p m x) b (uncounted why);
     no_total_with_a_reason = λ why m.
         total-answered t p m x found
-        ∙ sum-branches (part (apportionment t p.positions m x)) (λ b. pos 0) (λ b branch. part-uncounted (apportionment t p.positions m x) b (uncounted why)) ∙ sum-zero branches;
+        ∙ sum-branches (part (apportionment t p m x)) (λ b. pos 0) (λ b branch. part-uncounted (apportionment t p m x) b (uncounted why)) ∙ sum-zero branches;
   }
     where
-      uncounted : (answers.total_of (id_of x)).reason ≢ 0 → is_counted t p.positions x ≡ false
-      uncounted why = ne_eqb (reason_of t p.positions x) 0 (λ e. why (rw found e))
+      uncounted : (answers.total_of (id_of x)).reason ≢ 0 → is_counted t p x ≡ false
+      uncounted why = ne_eqb (reason_of t p x) 0 (λ e. why (rw found e))
 
-  counted-as-told : (x : PlainInvestee) → Found x → told_counted p (answer_to t p) answers x ≡ is_counted t p.positions x
+  counted-as-told : (x : PlainInvestee) → Found x → told_counted p (answer_to t p) answers x ≡ is_counted t p x
   counted-as-told x found = rw found refl
 
   mean-told : AllByRecursion Found p.investees → MeanGradeIsNearest p (answer_to t p) answers
   mean-told found =
-      let counted = filter (is_counted t p.positions) p.investees in
-      let same : filter (told_counted p (answer_to t p) answers) p.investees ≡ counted = filter-all _ (is_counted t p.positions) p.investees (All-weaker _ _ counted-as-told p.investees found) in
+      let counted = filter (is_counted t p) p.investees in
+      let same : filter (told_counted p (answer_to t p) answers) p.investees ≡ counted = filter-all _ (is_counted t p) p.investees (All-weaker _ _ counted-as-told p.investees found) in
       let grades : sum_by (λ x. exposure_to x p.positions * (answers.total_of (id_of x)).grade) counted ≡ sum_by (λ x. exposure_to x p.positions * x.grade) counted =
-      sum_by-all _ _ counted (All-weaker _ _ (λ x h. rw h refl) counted (all_kept_by (is_counted t p.positions) Found p.investees found)) in
+      sum_by-all _ _ counted (All-weaker _ _ (λ x h. rw h refl) counted (all_kept_by (is_counted t p) Found p.investees found)) in
       rw (same, grades) (nearest-mean (sum_by (λ x. exposure_to x p.positions * x.grade) counted) (sum_by (λ x. exposure_to x p.positions) counted))
 
   -- of the investees that pass a test

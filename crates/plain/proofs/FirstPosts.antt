@@ -41,7 +41,7 @@ module _ (b id m v : ℕ) where
 
   -- a branch's first post on an investee adds a position with one balance
   after-new : (t : Tables) (p : PlainBook) (x : PlainInvestee) → entry_out_of_range b m v ≡ false → investee_of id p ≡ Some x → bond_outside_closing x m ≡ false → is_some (position_of b id p.positions) ≡ false → length p.positions < most_positions
-      → too_much_lent t x (p.positions ++ with_balance m v (new_position b id) ∷ []) ≡ None → after t p (post b id m v) ≡ with_positions p (p.positions ++ with_balance m v (new_position b id) ∷ [])
+      → too_much_lent t p x (p.positions ++ with_balance m v (new_position b id) ∷ []) ≡ None → after t p (post b id m v) ≡ with_positions p (p.positions ++ with_balance m v (new_position b id) ∷ [])
   after-new t p x range found last none few small =
       ap (λ o. unless o (with_positions p (posted b id m v p.positions)) (λ f. p)) accepted ∙ ap (with_positions p) (posted-new b id m v p.positions none)
     where
@@ -82,7 +82,7 @@ module _ (p : PlainBook) (below : AllByRecursion (λ q. q.id < 1000) p.positions
       another j h = grind (arith, nat_tests)
 
   -- nothing is lent to the investee, so nothing is too much
-  nothing-more : (x : PlainInvestee) → 1000 < id_of x → x.profile.kind ≡ GeneralLoan → (ks : List ℕ) → too_much_lent national_tables x (p.positions ++ map position ks) ≡ None
+  nothing-more : (x : PlainInvestee) → 1000 < id_of x → x.profile.kind ≡ GeneralLoan → (ks : List ℕ) → too_much_lent national_tables p x (p.positions ++ map position ks) ≡ None
   nothing-more x high loan ks =
       let nothing : exposure_to x (p.positions ++ map position ks) ≡ 0 =
       none-lent x.profile.kind (id_of x) (p.positions ++ map position ks)
@@ -98,7 +98,7 @@ module _ (p : PlainBook) (below : AllByRecursion (λ q. q.id < 1000) p.positions
       let investee = lent-open k from to in
       after-new (1 + k % branch_count) (1001 + k / branch_count) 1 0 national_tables (table ks) investee.0
       in_range investee.1 (last investee.0 investee.2) (none-yet ks k later) (omega (arith, length-append p.positions (map position ks), length-map ks position))
-      (subst (λ (qs : List PlainPosition). too_much_lent national_tables investee.0 qs ≡ None) (sym more) (nothing-more investee.0 (high investee.0 investee.1) investee.2 (ks ++ k ∷ [])))
+      (subst (λ (qs : List PlainPosition). too_much_lent national_tables p investee.0 qs ≡ None) (sym more) (nothing-more investee.0 (high investee.0 investee.1) investee.2 (ks ++ k ∷ [])))
       ∙ ap (with_positions p) more
     where
       in_range : entry_out_of_range (1 + k % branch_count) 1 0 ≡ false

@@ -104,8 +104,8 @@ kept_read p id change same in_range ok = record {
 
 -- ---- posts and amendments
 
-within_limit : (t : Tables) (x : PlainInvestee) (qs : List PlainPosition) → too_much_lent t x qs ≡ None → exposure_to x qs ≤ most_exposure
-within_limit t x qs e = grind (arith, nat_tests)
+within_limit : (t : Tables) (p : PlainBook) (x : PlainInvestee) (qs : List PlainPosition) → too_much_lent t p x qs ≡ None → exposure_to x qs ≤ most_exposure
+within_limit t p x qs e = grind (arith, nat_tests)
 
 -- an entry on positions that have what the book's own have
 kept-entered : (t : Tables) (p : PlainBook) (b id m v : ℕ) (was : Bool) (qs : List PlainPosition) → KeptByEveryRun p → Entered t p b id m v was (amended b id m v qs)
@@ -122,7 +122,7 @@ kept-entered t p b id m v was qs ok entry few in_range all_open differ others at
   positions_differ = differ-amended b id m v qs differ;
   exposures_within_limit =
       exposures-entered p id entry.investee (amended b id m v qs) ok entry.found others
-      (λ y s. s ≤ most_exposure) ok.exposures_within_limit (within_limit t entry.investee _ entry.not-too-much);
+      (λ y s. s ≤ most_exposure) ok.exposures_within_limit (within_limit t p entry.investee _ entry.not-too-much);
   bonds_at_closing_only = bonds-entered t p b id m v was qs ok entry in_range at_closing others;
   positions_have_posts = posts;
 }

@@ -26,8 +26,8 @@ use Rattle.plain.proofs.Changing.{all-profiles, no-positions, no-position-yet, e
 use Rattle.plain.proofs.Positions.{others-amended, others-posted}
 
 -- a bond's exposure does not pass its denominator
-abbrev Bounded : Tables → PlainInvestee → ℕ → Type 0
-Bounded t x s = (is_bond x.profile.kind && passes s (denominator_of t x)) ≡ false
+abbrev Bounded : Tables → PlainBook → PlainInvestee → ℕ → Type 0
+Bounded t p x s = (is_bond x.profile.kind && passes s (denominator_of t p x)) ≡ false
 
 pub ruled-at-first : (t : Tables) → KeptUnderRule t empty
 ruled-at-first t = record { bases_given = tt; amounts_above_zero = tt; bonds_within_denominator = tt }
@@ -46,10 +46,10 @@ ruled-opened : (t : Tables) → Lawful t → (p : PlainBook) (x : PlainProfile) 
     → KeptUnderRule t (with_investees p (p.investees ++ opened x r ∷ []))
 ruled-opened t lawful p x r b kept ok is-new figures based = record {
   bases_given = All-push (λ y. is_ok (t.bases y.profile.kind y.profile.figures) ≡ true) p.investees (opened x r) ok.bases_given (ap is_ok based);
-  amounts_above_zero = All-push (λ y. AboveZero (denominator_of t y)) p.investees (opened x r) ok.amounts_above_zero (above_zero (t.bases x.kind x.figures) (lawful.bases_in_range x.kind x.figures figures));
-  bonds_within_denominator = All-push (λ y. Bounded t y (exposure_to y p.positions)) p.investees (opened x r) ok.bonds_within_denominator
-      (subst (λ (qs : List PlainPosition). Bounded t (opened x r) (exposures (map (lent_by x.kind) qs))) (sym (no-positions x.id p.positions (no-position-yet x.id p kept is-new)))
-      (and_right (is_bond x.kind) _ (nothing-passes (denominator_of t (opened x r)))));
+  amounts_above_zero = All-push (λ y. AboveZero (denominator_of t p y)) p.investees (opened x r) ok.amounts_above_zero (above_zero (t.bases x.kind x.figures) (lawful.bases_in_range x.kind x.figures figures));
+  bonds_within_denominator = All-push (λ y. Bounded t p y (exposure_to y p.positions)) p.investees (opened x r) ok.bonds_within_denominator
+      (subst (λ (qs : List PlainPosition). Bounded t p (opened x r) (exposures (map (lent_by x.kind) qs))) (sym (no-positions x.id p.positions (no-position-yet x.id p kept is-new)))
+      (and_right (is_bond x.kind) _ (nothing-passes (denominator_of t p (opened x r)))));
 }
 
 -- a change that leaves the profile as it is
@@ -62,15 +62,15 @@ ruled-read t p id change same ok = record {
       p.investees ok.bonds_within_denominator;
 }
 
-bounded : (t : Tables) (x : PlainInvestee) (qs : List PlainPosition) → too_much_lent t x qs ≡ None → Bounded t x (exposure_to x qs)
-bounded t x qs e = grind (arith, nat_tests)
+bounded : (t : Tables) (p : PlainBook) (x : PlainInvestee) (qs : List PlainPosition) → too_much_lent t p x qs ≡ None → Bounded t p x (exposure_to x qs)
+bounded t p x qs e = grind (arith, nat_tests)
 
 ruled-entered : (t : Tables) (p : PlainBook) (b id m v : ℕ) (was : Bool) (qs : List PlainPosition) → KeptByEveryRun p → KeptUnderRule t p → Entered t p b id m v was qs → ((j : ℕ) → j ≢ id → positions_on j qs ≡ positions_on j p.positions)
     → KeptUnderRule t (with_positions p qs)
 ruled-entered t p b id m v was qs kept ok entry others = record {
   bases_given = ok.bases_given;
   amounts_above_zero = ok.amounts_above_zero;
-  bonds_within_denominator = exposures-entered p id entry.investee qs kept entry.found others (Bounded t) ok.bonds_within_denominator (bounded t entry.investee qs entry.not-too-much);
+  bonds_within_denominator = exposures-entered p id entry.investee qs kept entry.found others (Bounded t p) ok.bonds_within_denominator (bounded t p entry.investee qs entry.not-too-much);
 }
 
 ruled-changed : (t : Tables) → Lawful t → (p : PlainBook) (c : Step) → KeptByEveryRun p → KeptUnderRule t p → declined t p c ≡ None → KeptUnderRule t (changed p c)

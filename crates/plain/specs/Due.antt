@@ -66,8 +66,8 @@ abbrev pub IsBond : PlainInvestee → Type 0
 IsBond x = x.profile.kind ≡ Bond
 
 -- a bond has an amount to divide by, and its exposure is more
-abbrev pub BondPasses : Tables → List PlainPosition → PlainInvestee → Type 0
-BondPasses t qs x = IsBond x × ((w : ℕ) × (denominator_of t x ≡ at_least w) × (w < exposure_to x qs))
+abbrev pub BondPasses : Tables → PlainBook → List PlainPosition → PlainInvestee → Type 0
+BondPasses t p qs x = IsBond x × ((w : ℕ) × (denominator_of t p x ≡ at_least w) × (w < exposure_to x qs))
 
 -- ---- the order of each call
 
@@ -98,7 +98,7 @@ cases t p (post b id m v) =
     ∷ (MonthAlreadyPosted due_if (is_posted b id m p.positions ≡ true))
     ∷ (PositionsFull due_if ((is_some (position_of b id p.positions) ≡ false) × (most_positions ≤ length p.positions)))
     ∷ (ExposureTooLarge due_if OfOpen id p (λ x. most_exposure < exposure_to x (posted b id m v p.positions)))
-    ∷ (BondAboveDenominator due_if OfOpen id p (BondPasses t (posted b id m v p.positions)))
+    ∷ (BondAboveDenominator due_if OfOpen id p (BondPasses t p (posted b id m v p.positions)))
     ∷ []
 cases t p (amend b id m v) =
     (EntryOutOfRange due_if NoEntry b m v)
@@ -106,7 +106,7 @@ cases t p (amend b id m v) =
     ∷ (BondOutsideClosingMonth due_if OfOpen id p (λ x. IsBond x × (m ≢ months)))
     ∷ (MonthNotPosted due_if (is_posted b id m p.positions ≡ false))
     ∷ (ExposureTooLarge due_if OfOpen id p (λ x. most_exposure < exposure_to x (amended b id m v p.positions)))
-    ∷ (BondAboveDenominator due_if OfOpen id p (BondPasses t (amended b id m v p.positions)))
+    ∷ (BondAboveDenominator due_if OfOpen id p (BondPasses t p (amended b id m v p.positions)))
     ∷ []
 cases t p (ask query) = query_cases p query
 

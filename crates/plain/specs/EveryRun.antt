@@ -29,7 +29,7 @@ measured reductions k = k.reductions
 -- What is told for a group of investees: the totals of these investees add up to it, and it lies near their exact sum.
 pub record GroupAddsUp (t : Tables) (p : PlainBook) (m : Measure) (ask : Query → Answer) (answers : Answered p ask) (group : List PlainInvestee) (kilograms : ℤ) : Type 0 where
   pub totals_add_up : sum_over group (λ x. measured m (answers.total_of (id_of x)).kilograms) ≡ kilograms
-  pub near_exact_sum : TotalNearExactSum (counted_in (map (apportionment t p.positions m) group)) kilograms (exact_sum (map (apportionment t p.positions m) group))
+  pub near_exact_sum : TotalNearExactSum (counted_in (map (apportionment t p m) group)) kilograms (exact_sum (map (apportionment t p m) group))
 
 -- In one measure; the book total is that for all kinds.
 pub record KeepsEveryKilogram (t : Tables) (p : PlainBook) (m : Measure) (ask : Query → Answer) (answers : Answered p ask) : Type 0 where

@@ -61,16 +61,16 @@ denominator_from (Ok (Amount n)) = at_least (months * n)
 denominator_from (Ok Whole) = whole
 denominator_from (Err e) = whole
 
--- what the rule divides an investee's exposures by
-abbrev pub denominator_of : Tables → PlainInvestee → Denominator
-denominator_of t x = denominator_from (t.bases x.profile.kind x.profile.figures)
+-- what the rule divides the exposures to an investee of a book by
+abbrev pub denominator_of : Tables → PlainBook → PlainInvestee → Denominator
+denominator_of t p x = denominator_from (t.bases x.profile.kind x.profile.figures)
 
--- the rule's reason to leave an investee out, with what is lent to it
-abbrev pub reason_of : Tables → List PlainPosition → PlainInvestee → ℕ
-reason_of t qs x = t.reasons (financing_of x.profile (exposure_to x qs) (closing_to x qs))
+-- the rule's reason to leave an investee of a book out
+abbrev pub reason_of : Tables → PlainBook → PlainInvestee → ℕ
+reason_of t p x = t.reasons (financing_of x.profile (exposure_to x p.positions) (closing_to x p.positions))
 
-abbrev pub is_counted : Tables → List PlainPosition → PlainInvestee → Bool
-is_counted t qs x = reason_of t qs x == 0
+abbrev pub is_counted : Tables → PlainBook → PlainInvestee → Bool
+is_counted t p x = reason_of t p x == 0
 
 -- ---- the two measures
 
@@ -83,10 +83,10 @@ abbrev pub figure_of : Measure → PlainInvestee → ℤ
 figure_of emissions x = x.kilograms
 figure_of reductions x = x.reduction
 
--- one measure of an investee, ready to be parted
-abbrev pub apportionment : Tables → List PlainPosition → Measure → PlainInvestee → Apportionment
-apportionment t qs m x = record { id = id_of x; figure = figure_of m x; denominator = denominator_of t x; lent = lent_to x qs; counted = is_counted t qs x }
+-- one measure of an investee of a book, ready to be apportioned
+abbrev pub apportionment : Tables → PlainBook → Measure → PlainInvestee → Apportionment
+apportionment t p m x = record { id = id_of x; figure = figure_of m x; denominator = denominator_of t p x; lent = lent_to x p.positions; counted = is_counted t p x }
 
 -- one measure of the whole book, investee by investee
 abbrev pub apportionments : Tables → PlainBook → Measure → List Apportionment
-apportionments t p m = map (apportionment t p.positions m) p.investees
+apportionments t p m = map (apportionment t p m) p.investees

@@ -81,9 +81,9 @@ pub record KeptByEveryRun (p : PlainBook) : Type 0 where
 pub record KeptUnderRule (t : Tables) (p : PlainBook) : Type 0 where
   -- every investee has a base, and where that is an amount, it is at least 1
   pub bases_given : AllByRecursion (λ x. is_ok (t.bases x.profile.kind x.profile.figures) ≡ true) p.investees
-  pub amounts_above_zero : AllByRecursion (λ x. AboveZero (denominator_of t x)) p.investees
+  pub amounts_above_zero : AllByRecursion (λ x. AboveZero (denominator_of t p x)) p.investees
   -- a bond's exposure does not pass its denominator
-  pub bonds_within_denominator : AllByRecursion (λ x. (is_bond x.profile.kind && passes (exposure_to x p.positions) (denominator_of t x)) ≡ false) p.investees
+  pub bonds_within_denominator : AllByRecursion (λ x. (is_bond x.profile.kind && passes (exposure_to x p.positions) (denominator_of t p x)) ≡ false) p.investees
 
 -- The empty book has all this, and each call keeps it, accepted or declined.
 pub record KeptByEachCall : Type 0 where

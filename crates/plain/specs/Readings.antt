@@ -26,11 +26,11 @@ both f = record { emissions = f emissions; reductions = f reductions }
 
 -- the part of branch b on an investee
 abbrev pub part_of : Tables → PlainBook → ℕ → PlainInvestee → Kilograms
-part_of t p b x = both (λ m. part (apportionment t p.positions m x) b)
+part_of t p b x = both (λ m. part (apportionment t p m x) b)
 
 -- an investee's total, with its reason and its grade
 abbrev pub total_of : Tables → PlainBook → PlainInvestee → InvesteeTotal
-total_of t p x = record { kilograms = both (λ m. total (apportionment t p.positions m x)); reason = reason_of t p.positions x; grade = x.grade }
+total_of t p x = record { kilograms = both (λ m. total (apportionment t p m x)); reason = reason_of t p x; grade = x.grade }
 
 -- a query for an investee that is not open is declined, and this answer never given
 abbrev pub of_investee : Option PlainInvestee → (PlainInvestee → Answer) → Answer
@@ -68,8 +68,8 @@ positions_on_all p xs = sum_by (λ x. length (positions_on (id_of x) p.positions
 
 -- a figure covers an investee if it is counted, and for reductions if one has been set too
 abbrev pub covers : Tables → PlainBook → Measure → PlainInvestee → Bool
-covers t p emissions x = is_counted t p.positions x
-covers t p reductions x = is_counted t p.positions x && x.reduced
+covers t p emissions x = is_counted t p x
+covers t p reductions x = is_counted t p x && x.reduced
 
 -- k of n in hundredths of a percent, toward zero; nothing where n is 0
 abbrev pub hundredths : ℕ → ℕ → Option ℕ
@@ -82,7 +82,7 @@ cover_of t p m xs = hundredths (positions_on_all p (filter (covers t p m) xs)) (
 -- what falls to all branches for these investees, and what share of their positions it covers
 abbrev pub subtotal_of : Tables → PlainBook → List PlainInvestee → Subtotal
 subtotal_of t p xs = record {
-  kilograms = both (λ m. book_total (map (apportionment t p.positions m) xs));
+  kilograms = both (λ m. book_total (map (apportionment t p m) xs));
   emissions_cover = cover_of t p emissions xs;
   reductions_cover = cover_of t p reductions xs;
 }
@@ -101,7 +101,7 @@ is_project x = project_kind x.profile.kind
 
 -- by exposure, over the counted investees
 abbrev pub mean_grade_of : Tables → PlainBook → Option ℕ
-mean_grade_of t p = mean_of (λ x. exposure_to x p.positions) (λ x. x.grade) (filter (is_counted t p.positions) p.investees)
+mean_grade_of t p = mean_of (λ x. exposure_to x p.positions) (λ x. x.grade) (filter (is_counted t p) p.investees)
 
 -- the book total
 abbrev pub book_total_of : Tables → PlainBook → BookTotal

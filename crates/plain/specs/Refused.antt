@@ -66,11 +66,11 @@ abbrev pub passes : ℕ → Denominator → Bool
 passes s (at_least w) = nat_lt w s
 passes s whole = false
 
--- the positions would bring the investee's exposure past its limit, or a bond's past its denominator
-abbrev pub too_much_lent : Tables → PlainInvestee → List PlainPosition → Option Fault
-too_much_lent t x qs =
+-- these positions would bring the exposure to an investee of a book past its limit, or that to a bond past its denominator
+abbrev pub too_much_lent : Tables → PlainBook → PlainInvestee → List PlainPosition → Option Fault
+too_much_lent t p x qs =
     refuse (nat_lt most_exposure (exposure_to x qs)) ExposureTooLarge
-    (refuse (is_bond x.profile.kind && passes (exposure_to x qs) (denominator_of t x)) BondAboveDenominator None)
+    (refuse (is_bond x.profile.kind && passes (exposure_to x qs) (denominator_of t p x)) BondAboveDenominator None)
 
 -- refused where the reading is below 0
 abbrev pub below_zero : Reading → Option Fault
@@ -101,11 +101,11 @@ declined t p (post branch id month balance) =
     refuse (bond_outside_closing x month) BondOutsideClosingMonth
     (refuse (is_posted branch id month p.positions) MonthAlreadyPosted
     (refuse (no_room_for branch id p.positions) PositionsFull
-    (too_much_lent t x (posted branch id month balance p.positions))))))
+    (too_much_lent t p x (posted branch id month balance p.positions))))))
 declined t p (amend branch id month balance) =
     refuse (entry_out_of_range branch month balance) EntryOutOfRange
     (if_open (investee_of id p) (λ x.
     refuse (bond_outside_closing x month) BondOutsideClosingMonth
     (refuse (not (is_posted branch id month p.positions)) MonthNotPosted
-    (too_much_lent t x (amended branch id month balance p.positions)))))
+    (too_much_lent t p x (amended branch id month balance p.positions)))))
 declined t p (ask query) = declined_query p query
