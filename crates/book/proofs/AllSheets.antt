@@ -62,7 +62,7 @@ turns_at kind id qs turns k is h =
 
 -- what falls to it is the part
 pub part-of-turn : (t : Tables) (p : PlainBook) (b : ℕ) (x : PlainInvestee) (s : Standing) (turn : Turn) (y : Kilograms)
-    → s ≡ standing_of t p.positions x → turn ≡ turn_of x.profile.kind x.profile.id b p.positions → y ≡ both_fall s turn x → y ≡ part_of t p b x
+    → s ≡ standing_of t p x → turn ≡ turn_of x.profile.kind x.profile.id b p.positions → y ≡ both_fall s turn x → y ≡ part_of t p b x
 part-of-turn t p b x s turn y is-s is-turn is_y = is_y ∙ ap₂ (λ s turn. both_fall s turn x) is-s is-turn
 
 less-itself : (z : ℤ) → z -ℤ z ≡ pos 0
@@ -76,9 +76,9 @@ no_part t p b x e = λ i. record { emissions = by emissions i; reductions = by r
     one F c B true = ap (λ n. rounded F n B -ℤ rounded F c B) (add-zero c) ∙ less-itself (rounded F c B)
     one F c B false = refl
 
-    by : (m : Measure) → part (apportionment t p.positions m x) b ≡ pos 0
+    by : (m : Measure) → part (apportionment t p m x) b ≡ pos 0
     by m =
-        let a = apportionment t p.positions m x in
+        let a = apportionment t p m x in
         ap (λ n. cond a.counted (rounded a.figure (exposure_before a.lent b + n) (base a) -ℤ rounded a.figure (exposure_before a.lent b) (base a)) (pos 0)) (none_lent 0 a.lent b e)
         ∙ one a.figure (exposure_before a.lent b) (base a) a.counted
 

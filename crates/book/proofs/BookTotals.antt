@@ -54,13 +54,13 @@ module _ (t : Tables) (p : PlainBook) where
     abbrev mine : PlainInvestee → Bool
     mine x = takes g (line_of t p x)
 
-    kilograms-lines : (m : Measure) → sum_over (map (line_of t p) xs) (λ l. measured m (taken g l).kilograms) ≡ book_total (map (apportionment t p.positions m) (filter mine xs))
+    kilograms-lines : (m : Measure) → sum_over (map (line_of t p) xs) (λ l. measured m (taken g l).kilograms) ≡ book_total (map (apportionment t p m) (filter mine xs))
     kilograms-lines m =
         sum-map (line_of t p) xs (λ l. measured m (taken g l).kilograms)
         ∙ sum_same xs _ _ (λ x. by m x (mine x))
-        ∙ sym (sum-map (apportionment t p.positions m) (filter mine xs) total ∙ kept-over mine (λ x. total (apportionment t p.positions m x)) xs)
+        ∙ sym (sum-map (apportionment t p m) (filter mine xs) total ∙ kept-over mine (λ x. total (apportionment t p m x)) xs)
       where
-        by : (m : Measure) (x : PlainInvestee) (b : Bool) → measured m (cond b (line_of t p x) no_line).kilograms ≡ cond b (total (apportionment t p.positions m x)) (pos 0)
+        by : (m : Measure) (x : PlainInvestee) (b : Bool) → measured m (cond b (line_of t p x) no_line).kilograms ≡ cond b (total (apportionment t p m x)) (pos 0)
         by emissions x true = refl
         by emissions x false = refl
         by reductions x true = refl
@@ -98,18 +98,18 @@ module _ (t : Tables) (p : PlainBook) where
   -- ---- the mean grade
 
   module _ (xs : List PlainInvestee) (all : AllByRecursion (WithinBook p.positions) xs) where
-    weight-line : (x : PlainInvestee) → WithinBook p.positions x → weight_of (line_of t p x) ≡ cond (is_counted t p.positions x) (exposure_to x p.positions) 0
-    weight-line x ok = ap (λ n. cond (is_counted t p.positions x) n 0) (omega (arith, ok.exposure_within_limit))
+    weight-line : (x : PlainInvestee) → WithinBook p.positions x → weight_of (line_of t p x) ≡ cond (is_counted t p x) (exposure_to x p.positions) 0
+    weight-line x ok = ap (λ n. cond (is_counted t p x) n 0) (omega (arith, ok.exposure_within_limit))
 
     grade-line : (x : PlainInvestee) → WithinBook p.positions x → grade_of (line_of t p x) ≡ x.grade
     grade-line x ok = omega (arith, ok.in_range.grade_to)
 
-    mean-lines : mean_of weight_of grade_of (map (line_of t p) xs) ≡ mean_of (λ x. exposure_to x p.positions) (λ x. x.grade) (filter (is_counted t p.positions) xs)
+    mean-lines : mean_of weight_of grade_of (map (line_of t p) xs) ≡ mean_of (λ x. exposure_to x p.positions) (λ x. x.grade) (filter (is_counted t p) xs)
     mean-lines =
         ap₂ nearest_hundredths
         (sum_view (line_of t p) (λ l. weight_of l * grade_of l) xs ∙ sums_same _ _ xs (All-weaker _ _ (λ x ok. ap₂ ◌*◌ (weight-line x ok) (grade-line x ok)) xs all))
         (sum_view (line_of t p) weight_of xs ∙ sums_same _ _ xs (All-weaker _ _ weight-line xs all))
-        ∙ sym (mean-kept (is_counted t p.positions) (λ x. exposure_to x p.positions) (λ x. x.grade) xs)
+        ∙ sym (mean-kept (is_counted t p) (λ x. exposure_to x p.positions) (λ x. x.grade) xs)
 
   -- ---- the whole book
 
@@ -127,8 +127,8 @@ module _ (t : Tables) (p : PlainBook) where
   pub line-within : KeptByEveryRun p → (x : PlainInvestee) → WithinBook p.positions x → LineWithinLimits (line_of t p x)
   line-within kept x ok = record {
     kilograms_within_limit = record {
-      of_emissions = omega (arith, total-within (apportionment t p.positions emissions x) (once_per_branch p kept x), ok.in_range.kilograms_within_limit);
-      of_reductions = omega (arith, total-within (apportionment t p.positions reductions x) (once_per_branch p kept x), ok.in_range.reduction_within_limit);
+      of_emissions = omega (arith, total-within (apportionment t p emissions x) (once_per_branch p kept x), ok.in_range.kilograms_within_limit);
+      of_reductions = omega (arith, total-within (apportionment t p reductions x) (once_per_branch p kept x), ok.in_range.reduction_within_limit);
     };
     positions_within_limit = omega (arith, length-filter (λ q. eqb q.id (id_of x)) p.positions, count_by-le-length (λ q. eqb q.id (id_of x)) p.positions, kept.positions_within_limit);
     exposure_within_limit = ok.exposure_within_limit;

@@ -73,10 +73,10 @@ module _ (p : PlainBook) (b id m v : ℕ) where
   module _ (t : Tables) where
     -- the tests of their own, for an investee of the id j
     abbrev post_tests : ℕ → PlainInvestee → Option Fault
-    post_tests j x = refuse (is_posted b j m p.positions) MonthAlreadyPosted (refuse (no_room_for b j p.positions) PositionsFull (too_much_lent t x (posted b j m v p.positions)))
+    post_tests j x = refuse (is_posted b j m p.positions) MonthAlreadyPosted (refuse (no_room_for b j p.positions) PositionsFull (too_much_lent t p x (posted b j m v p.positions)))
 
     abbrev amend_tests : ℕ → PlainInvestee → Option Fault
-    amend_tests j x = refuse (not (is_posted b j m p.positions)) MonthNotPosted (too_much_lent t x (amended b j m v p.positions))
+    amend_tests j x = refuse (not (is_posted b j m p.positions)) MonthNotPosted (too_much_lent t p x (amended b j m v p.positions))
 
     pub post-not-entered : (f : Fault) → Err f ≡ entry_for p b id m v → declined t p (post b id m v) ≡ Some f
     unfolding then_entry
@@ -105,7 +105,7 @@ module _ (p : PlainBook) (b m v : ℕ) (x : PlainInvestee) (entry : EntryFor p b
   pub entry-enters : (t : Tables) → post_fault t p x b m v ≡ None → can_enter b (id_of x) m p.positions ≡ true
   entry-enters t e = and_from (in_year m) (not (no_room_for b (id_of x) p.positions)) entry-in-year (by (is_posted b (id_of x) m p.positions) (no_room_for b (id_of x) p.positions) e)
     where
-      by : (taken full : Bool) → refuse taken MonthAlreadyPosted (refuse full PositionsFull (too_much_lent t x (posted b (id_of x) m v p.positions))) ≡ None → not full ≡ true
+      by : (taken full : Bool) → refuse taken MonthAlreadyPosted (refuse full PositionsFull (too_much_lent t p x (posted b (id_of x) m v p.positions))) ≡ None → not full ≡ true
       by true full e = absurd cc
       by false true e = absurd cc
       by false false e = refl

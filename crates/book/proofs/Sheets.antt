@@ -22,8 +22,8 @@ use Rattle.book.proofs.Adding.{summed, summed-within}
 module _ (t : Tables) (p : PlainBook) (b : ℕ) where
   pub part-figure : (x : PlainInvestee) → WithinBook p.positions x → AtMostFigures 1 (part_of t p b x)
   part-figure x ok = record {
-    of_emissions = omega (arith, part-within (apportionment t p.positions emissions x) b, ok.in_range.kilograms_within_limit);
-    of_reductions = omega (arith, part-within (apportionment t p.positions reductions x) b, ok.in_range.reduction_within_limit);
+    of_emissions = omega (arith, part-within (apportionment t p emissions x) b, ok.in_range.kilograms_within_limit);
+    of_reductions = omega (arith, part-within (apportionment t p reductions x) b, ok.in_range.reduction_within_limit);
   }
 
   -- the part of a row
@@ -41,5 +41,5 @@ module _ (t : Tables) (p : PlainBook) (b : ℕ) where
 pub sheet-rows : (t : Tables) (rows : List InvesteeRow) (qs : Positions) (b : ℕ) → summed (row_part t (plain_rows rows qs) b) rows ≡ sheet_of t (plain_rows rows qs) b
 sheet-rows t rows qs b = λ i. record { emissions = by emissions i; reductions = by reductions i }
   where
-    by : (m : Measure) → sum_over rows (λ row. part (apportionment t (plain_rows rows qs).positions m (plain_investee row)) b) ≡ sheet (apportionments t (plain_rows rows qs) m) b
-    by m = sym (sum-map (apportionment t (plain_rows rows qs).positions m) (plain_investees rows) (λ a. part a b) ∙ sum-map plain_investee rows (λ x. part (apportionment t (plain_rows rows qs).positions m x) b))
+    by : (m : Measure) → sum_over rows (λ row. part (apportionment t (plain_rows rows qs) m (plain_investee row)) b) ≡ sheet (apportionments t (plain_rows rows qs) m) b
+    by m = sym (sum-map (apportionment t (plain_rows rows qs) m) (plain_investees rows) (λ a. part a b) ∙ sum-map plain_investee rows (λ x. part (apportionment t (plain_rows rows qs) m x) b))

@@ -27,19 +27,19 @@ whole-falls s x = both-same _ _ (λ m. by (eqb s.reason 0) (figure_of m x))
     by false F = refl
 
 module _ (t : Tables) (p : PlainBook) (kept : KeptByEveryRun p) (x : PlainInvestee) where
-  pub totals-closed : both (λ m. total (apportionment t p.positions m x)) ≡ all_falls (standing_of t p.positions x) x
-  totals-closed = both-same _ _ (λ m. total-is (apportionment t p.positions m x) (once_per_branch p kept x))
+  pub totals-closed : both (λ m. total (apportionment t p m x)) ≡ all_falls (standing_of t p x) x
+  totals-closed = both-same _ _ (λ m. total-is (apportionment t p m x) (once_per_branch p kept x))
 
-  pub total-told : (s : Standing) (k : Kilograms) → s ≡ standing_of t p.positions x → k ≡ all_falls s x → record { kilograms = k; reason = s.reason; grade = x.grade } ≡ total_of t p x
+  pub total-told : (s : Standing) (k : Kilograms) → s ≡ standing_of t p x → k ≡ all_falls s x → record { kilograms = k; reason = s.reason; grade = x.grade } ≡ total_of t p x
   total-told s k is-s is-k =
-      let ks : k ≡ both (λ m. total (apportionment t p.positions m x)) = is-k ∙ ap (λ s. all_falls s x) is-s ∙ sym totals-closed in
-      let rs : s.reason ≡ reason_of t p.positions x = ap (λ s. s.reason) is-s in
+      let ks : k ≡ both (λ m. total (apportionment t p m x)) = is-k ∙ ap (λ s. all_falls s x) is-s ∙ sym totals-closed in
+      let rs : s.reason ≡ reason_of t p x = ap (λ s. s.reason) is-s in
       λ i. record { kilograms = ks i; reason = rs i; grade = x.grade }
 
   -- the line of an investee
-  pub line-told : (s : Standing) (k : Kilograms) (project counted reduced : Bool) → s ≡ standing_of t p.positions x → k ≡ all_falls s x → project ≡ is_project x → counted ≡ eqb s.reason 0 → reduced ≡ x.reduced
+  pub line-told : (s : Standing) (k : Kilograms) (project counted reduced : Bool) → s ≡ standing_of t p x → k ≡ all_falls s x → project ≡ is_project x → counted ≡ eqb s.reason 0 → reduced ≡ x.reduced
       → record { project = project; kilograms = k; positions = s.positions; counted = counted; reduced = reduced; exposure = s.exposure; grade = x.grade } ≡ line_of t p x
   line-told s k project counted reduced is-s is-k is-project is-counted is-reduced =
-      let ks : k ≡ both (λ m. total (apportionment t p.positions m x)) = is-k ∙ ap (λ s. all_falls s x) is-s ∙ sym totals-closed in
-      let cs : counted ≡ is_counted t p.positions x = is-counted ∙ ap (λ (s : Standing). eqb s.reason 0) is-s in
+      let ks : k ≡ both (λ m. total (apportionment t p m x)) = is-k ∙ ap (λ s. all_falls s x) is-s ∙ sym totals-closed in
+      let cs : counted ≡ is_counted t p x = is-counted ∙ ap (λ (s : Standing). eqb s.reason 0) is-s in
       λ i. record { project = is-project i; kilograms = ks i; positions = (is-s i).positions; counted = cs i; reduced = is-reduced i; exposure = (is-s i).exposure; grade = x.grade }

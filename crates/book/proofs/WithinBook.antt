@@ -16,7 +16,7 @@ use Rattle.plain.specs.Exposures.{exposure_to, denominator_from, denominator_of,
 use Rattle.plain.specs.Kept.{InvesteeInRange, KeptByEveryRun}
 use Rattle.plain.specs.Limits.{most_exposure}
 use Rattle.plain.specs.Parts.{base_of}
-use Rattle.plain.specs.PlainBook.{PlainInvestee, PlainPosition, PlainBook, has_id, investee_of}
+use Rattle.plain.specs.PlainBook.{PlainInvestee, PlainBook, has_id, investee_of}
 use Rattle.plain.proofs.Lists.{all_both, first-all}
 use Rattle.plain.proofs.Parts.{base-holds}
 use Rattle.plain.proofs.Sizes.{running-within}
@@ -36,31 +36,31 @@ base-within (Ok (Amount n)) s range h = omega arith
 base-within (Ok Whole) s range h = omega arith
 base-within (Err e) s range h = omega arith
 
-module _ (t : Tables) (lawful : Lawful t) (qs : List PlainPosition) (x : PlainInvestee) (ok : WithinBook qs x) where
+module _ (t : Tables) (lawful : Lawful t) (p : PlainBook) (x : PlainInvestee) (ok : WithinBook p.positions x) where
   within : (m : Measure) → nat_abs (figure_of m x) ≤ most_kilograms
   within emissions = ok.in_range.kilograms_within_limit
   within reductions = ok.in_range.reduction_within_limit
 
-  sizes : (m : Measure) (c : ℕ) → c ≤ exposure_to x qs → Sizes (figure_of m x) c (standing_of t qs x).base
+  sizes : (m : Measure) (c : ℕ) → c ≤ exposure_to x p.positions → Sizes (figure_of m x) c (standing_of t p x).base
   sizes m c h = record {
     figure_within_limit = within m;
     exposure_within_limit = omega (arith, ok.exposure_within_limit);
-    exposure_within_base = omega (arith, base-holds (denominator_of t x) (exposure_to x qs));
+    exposure_within_base = omega (arith, base-holds (denominator_of t p x) (exposure_to x p.positions));
     base_above_zero = omega arith;
-    base_within_limit = base-within (t.bases x.profile.kind x.profile.figures) (exposure_to x qs) (lawful.bases_in_range x.profile.kind x.profile.figures ok.in_range.profile_in_range.figures_to) ok.exposure_within_limit;
+    base_within_limit = base-within (t.bases x.profile.kind x.profile.figures) (exposure_to x p.positions) (lawful.bases_in_range x.profile.kind x.profile.figures ok.in_range.profile_in_range.figures_to) ok.exposure_within_limit;
   }
 
-  fair : (turn : Turn) → turn.before + turn.exposure ≤ exposure_to x qs → Fair (standing_of t qs x) turn x
+  fair : (turn : Turn) → turn.before + turn.exposure ≤ exposure_to x p.positions → Fair (standing_of t p x) turn x
   fair turn h = record { emissions = sizes emissions _ h; reductions = sizes reductions _ h }
 
-  pub fair-turn : (s : Standing) (turn : Turn) (b : ℕ) → s ≡ standing_of t qs x → turn ≡ turn_of x.profile.kind x.profile.id b qs → Fair s turn x
+  pub fair-turn : (s : Standing) (turn : Turn) (b : ℕ) → s ≡ standing_of t p x → turn ≡ turn_of x.profile.kind x.profile.id b p.positions → Fair s turn x
   fair-turn s turn b is-s is-turn =
       subst (λ (s : Standing). Fair s turn x) (sym is-s)
-      (subst (λ (turn : Turn). Fair (standing_of t qs x) turn x) (sym is-turn)
-      (fair (turn_of x.profile.kind x.profile.id b qs) (running-within (lent_to x qs) b)))
+      (subst (λ (turn : Turn). Fair (standing_of t p x) turn x) (sym is-turn)
+      (fair (turn_of x.profile.kind x.profile.id b p.positions) (running-within (lent_to x p.positions) b)))
 
-  pub fair-whole : (s : Standing) → s ≡ standing_of t qs x → Fair s (whole_turn s) x
-  fair-whole s is = subst (λ (s : Standing). Fair s (whole_turn s) x) (sym is) (fair (whole_turn (standing_of t qs x)) (omega arith))
+  pub fair-whole : (s : Standing) → s ≡ standing_of t p x → Fair s (whole_turn s) x
+  fair-whole s is = subst (λ (s : Standing). Fair s (whole_turn s) x) (sym is) (fair (whole_turn (standing_of t p x)) (omega arith))
 
 pub within-book : (p : PlainBook) → KeptByEveryRun p → (id : ℕ) (x : PlainInvestee) → Ok x ≡ ok_or (investee_of id p) (fault NotOpen 0 0) → WithinBook p.positions x
 within-book p kept id x e =

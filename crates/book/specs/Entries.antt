@@ -9,7 +9,7 @@ use Rattle.rules.specs.Months.{months}
 use Rattle.rules.specs.Tables.{Tables}
 use Rattle.rules.specs.declared.kinds.Kind.{Kind}
 use Rattle.plain.specs.Changes.{posted, amended}
-use Rattle.plain.specs.Exposures.{is_bond, denominator_of}
+use Rattle.plain.specs.Exposures.{is_bond, denominator_from}
 use Rattle.plain.specs.Limits.{most_exposure}
 use Rattle.plain.specs.PlainBook.{PlainInvestee, PlainBook, id_of, investee_of, is_posted}
 use Rattle.plain.specs.Refused.{refuse, entry_out_of_range, bond_outside_closing, no_room_for, passes, too_much_lent}
@@ -51,15 +51,15 @@ counted kind v = cond (is_bond kind) (months * v) v
 abbrev pub too_much_at : Tables → PlainInvestee → ℕ → Option Fault
 too_much_at t x s =
     refuse (nat_lt most_exposure s) ExposureTooLarge
-    (refuse (is_bond x.profile.kind && passes s (denominator_of t x)) BondAboveDenominator None)
+    (refuse (is_bond x.profile.kind && passes s (denominator_from (t.bases x.profile.kind x.profile.figures))) BondAboveDenominator None)
 
 abbrev pub post_fault : Tables → PlainBook → PlainInvestee → ℕ → ℕ → ℕ → Option Fault
 post_fault t p x b m v =
     refuse (is_posted b (id_of x) m p.positions) MonthAlreadyPosted
     (refuse (no_room_for b (id_of x) p.positions) PositionsFull
-    (too_much_lent t x (posted b (id_of x) m v p.positions)))
+    (too_much_lent t p x (posted b (id_of x) m v p.positions)))
 
 abbrev pub amend_fault : Tables → PlainBook → PlainInvestee → ℕ → ℕ → ℕ → Option Fault
 amend_fault t p x b m v =
     refuse (not (is_posted b (id_of x) m p.positions)) MonthNotPosted
-    (too_much_lent t x (amended b (id_of x) m v p.positions))
+    (too_much_lent t p x (amended b (id_of x) m v p.positions))

@@ -7,19 +7,19 @@ use Rattle.plain.specs.Kept.{InvesteeInRange}
 use Rattle.plain.specs.Branches.{branch_count}
 use Rattle.plain.specs.Limits.{most_investees, most_exposure}
 use Rattle.plain.specs.Parts.{base_of}
-use Rattle.plain.specs.PlainBook.{PlainInvestee, PlainPosition, id_of}
+use Rattle.plain.specs.PlainBook.{PlainInvestee, PlainPosition, PlainBook, id_of}
 use Rattle.plain.specs.Readings.{both}
 use Rattle.plain.specs.Rounding.{rounded}
 use Rattle.book.specs.Shares.{Sizes, added, no_kilograms, AtMostFigures}
 use Rattle.positions.specs.declared.lending.Turn.{Turn}
 use Rattle.book.specs.declared.book.readings.Standing.{Standing}
 
-abbrev pub standing_of : Tables → List PlainPosition → PlainInvestee → Standing
-standing_of t qs x = record {
-  positions = length (positions_on (id_of x) qs);
-  exposure = exposure_to x qs;
-  base = max 1 (base_of (denominator_of t x) (exposure_to x qs));
-  reason = reason_of t qs x;
+abbrev pub standing_of : Tables → PlainBook → PlainInvestee → Standing
+standing_of t p x = record {
+  positions = length (positions_on (id_of x) p.positions);
+  exposure = exposure_to x p.positions;
+  base = max 1 (base_of (denominator_of t p x) (exposure_to x p.positions));
+  reason = reason_of t p x;
 }
 
 -- what of a figure falls to a turn: nothing where the investee is not counted

@@ -150,7 +150,7 @@ struct Held<'b, 'r, R: Rule> {
 impl<'b, 'r, R: Rule> Held<'b, 'r, R> {
     // How it stands: the rule is asked once.
     fn standing(&self) -> Standing
-        ensures { result ≡ standing_of (R.tables self.now.book.now.rule.now) (plain self.now.book.now).positions (plain_investee self.now.row) }
+        ensures { result ≡ standing_of (R.tables self.now.book.now.rule.now) (plain self.now.book.now) (plain_investee self.now.row) }
     {
         let profile = self.row.profile;
         let lending = self.book.positions.lending(profile);

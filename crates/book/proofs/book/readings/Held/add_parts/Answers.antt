@@ -18,7 +18,7 @@ shares-requires g c =
     let x = plain_investee c.args.self.now.row in
     let k = c.loop-k.k in
     let turn = sym (turns_at x.profile.kind x.profile.id (positions_in book.positions) c.turns-turns.result k c.turns-turns.ensures c.loop-k-test.true) ∙ c.in-Some.is in
-    fair-turn (g.R.Rule.tables book.rule.now) (g.R.Rule.lawful book.rule.now) (positions_in book.positions) x (within_of (positions_in book.positions) x c.args.self.now.within)
+    fair-turn (g.R.Rule.tables book.rule.now) (g.R.Rule.lawful book.rule.now) (plain book) x (within_of (positions_in book.positions) x c.args.self.now.within)
     c.standing-standing.result c.in-Some.turn (k + 1) c.standing-standing.ensures (turn_is x.profile.kind x.profile.id (k + 1) (positions_in book.positions) c.in-Some.turn turn)
 
 pub added-requires : goal.added-requires

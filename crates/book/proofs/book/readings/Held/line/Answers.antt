@@ -1,4 +1,3 @@
-use Rattle.positions.specs.View.{positions_in}
 use Rattle.book.specs.Rows.{plain_investee}
 use Rattle.book.specs.View.{plain}
 use Rattle.book.proofs.Propositions.{kept_of, within_of}
@@ -10,9 +9,9 @@ pub whole_shares-requires : goal.whole_shares-requires
 whole_shares-requires g c =
     let held = c.args.self.now in
     let rule = held.book.now.rule.now in
-    let qs = positions_in held.book.now.positions in
+    let p = plain held.book.now in
     let x = plain_investee held.row in
-    fair-whole (g.R.Rule.tables rule) (g.R.Rule.lawful rule) qs x (within_of qs x held.within) c.standing-standing.result c.standing-standing.ensures
+    fair-whole (g.R.Rule.tables rule) (g.R.Rule.lawful rule) p x (within_of p.positions x held.within) c.standing-standing.result c.standing-standing.ensures
 
 pub returns : goal.returns
 returns g c =
