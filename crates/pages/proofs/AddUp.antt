@@ -41,8 +41,8 @@ module _ (t : Tables) (p : PlainBook) (b : ℕ) (none : has_position p b ≡ fal
   -- a branch without a position has a sheet of 0
   no-sheet : sheet (apportionments t p emissions) b ≡ pos 0
   no-sheet =
-      sum-map (apportionment t p.positions emissions) p.investees (λ a. part a b)
-      ∙ sum_same p.investees _ (λ x. pos 0) (λ x. part_none (apportionment t p.positions emissions x) b (no-exposure x)) ∙ sum-zero p.investees
+      sum-map (apportionment t p emissions) p.investees (λ a. part a b)
+      ∙ sum_same p.investees _ (λ x. pos 0) (λ x. part_none (apportionment t p emissions x) b (no-exposure x)) ∙ sum-zero p.investees
 
 on-line : (t : Tables) (p : PlainBook) (b : ℕ) → on_line (sheet_if_any t p b) ≡ sheet (apportionments t p emissions) b
 on-line t p b = by (has_position p b) refl
@@ -59,7 +59,7 @@ module _ (t : Tables) (p : PlainBook) where
 
   pub investees-add-up : sum_over (accounts_of t p) (λ a. a.total.kilograms.emissions) ≡ (book_total_of t p).all.kilograms.emissions
   investees-add-up =
-      sum-map (account_of t p) p.investees (λ a. a.total.kilograms.emissions) ∙ sym (sum-map (apportionment t p.positions emissions) p.investees total)
+      sum-map (account_of t p) p.investees (λ a. a.total.kilograms.emissions) ∙ sym (sum-map (apportionment t p emissions) p.investees total)
 
   pub page-adds-up : PageAddsUp t p
   page-adds-up = record { branches_add_up_to_total = branches-add-up; investees_add_up_to_total = investees-add-up }

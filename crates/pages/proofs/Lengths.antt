@@ -117,17 +117,17 @@ length-sheets t p = length-map (reverse branches) (sheet_if_any t p) ∙ branche
 
 module _ (t : Tables) (lawful : Lawful t) (p : PlainBook) (kept : KeptByEveryRun p) where
   few : length (apportionments t p emissions) ≤ most_investees
-  few = omega (arith, length-map p.investees (apportionment t p.positions emissions), kept.investees_within_limit)
+  few = omega (arith, length-map p.investees (apportionment t p emissions), kept.investees_within_limit)
 
   totals : AllByRecursion (λ a. nat_abs (total a) ≤ most_kilograms) (apportionments t p emissions)
   totals =
-      All-map _ (apportionment t p.positions emissions) p.investees
-      (All-weaker _ _ (λ x h. omega (arith, total-within (apportionment t p.positions emissions x) (once_per_branch p kept x), h.kilograms_within_limit)) p.investees kept.investees_in_range)
+      All-map _ (apportionment t p emissions) p.investees
+      (All-weaker _ _ (λ x h. omega (arith, total-within (apportionment t p emissions x) (once_per_branch p kept x), h.kilograms_within_limit)) p.investees kept.investees_in_range)
 
   parts : (b : ℕ) → AllByRecursion (λ a. nat_abs (part a b) ≤ most_kilograms) (apportionments t p emissions)
   parts b =
-      All-map _ (apportionment t p.positions emissions) p.investees
-      (All-weaker _ _ (λ x h. omega (arith, part-within (apportionment t p.positions emissions x) b, h.kilograms_within_limit)) p.investees kept.investees_in_range)
+      All-map _ (apportionment t p emissions) p.investees
+      (All-weaker _ _ (λ x h. omega (arith, part-within (apportionment t p emissions x) b, h.kilograms_within_limit)) p.investees kept.investees_in_range)
 
   sheet-within : (b : ℕ) → nat_abs (sheet (apportionments t p emissions) b) ≤ most_investees * most_kilograms
   sheet-within b = omega (arith, few, sum-within (apportionments t p emissions) (λ a. part a b) most_kilograms (parts b))
@@ -145,7 +145,7 @@ module _ (t : Tables) (lawful : Lawful t) (p : PlainBook) (kept : KeptByEveryRun
   account : (x : PlainInvestee) → InvesteeInRange x × (exposure_to x p.positions ≤ most_exposure) → Short (account_of t p x)
   account x (range, most) = record {
     id = range.profile_in_range.id_to;
-    kilograms = omega (arith, total-within (apportionment t p.positions emissions x) (once_per_branch p kept x), range.kilograms_within_limit);
+    kilograms = omega (arith, total-within (apportionment t p emissions x) (once_per_branch p kept x), range.kilograms_within_limit);
     reason = reason-in-range t lawful x p.positions range.profile_in_range kept.positions_in_range most;
     grade = range.grade_to;
   }
