@@ -29,7 +29,7 @@ use Rattle.plain.proofs.Changing.{same-profile}
 use Rattle.plain.proofs.Bonds.{none-anywhere}
 use Rattle.plain.proofs.Lists.{is_find, first-all, found-changed}
 use Rattle.plain.proofs.Positions.{all-with-position, new-in-range}
-use Rattle.plain.proofs.Runs.{reached-after}
+use Rattle.plain.proofs.Runs.{run-accepted, reached-after}
 
 -- ---- looking up, after one change
 
@@ -290,5 +290,6 @@ pub each-call-changes : EachCallChangesWhatItNames
 each-call-changes = record {
   where_accepted = where-accepted;
   where_declined = where-declined;
+  run_of_accepted = run-accepted;
   as_one_call = λ t p c within kept. one-call t p c (answer t p c) (after t p c) within kept refl refl;
 }

@@ -1,7 +1,7 @@
 -- What each call makes of a book, told by what can be looked up before the call and after it: it changes what it names, and
 -- nothing else. Ids differ in every book, so the lookups of all ids and their order are all that there is of the investees;
 -- so too of the positions.
-use Rattle.std.specs.Prelude.{◌≡◌, ℕ, ◌≤◌, true, false, ◌≢◌, List, [], ◌∷◌, ◌++◌, map, pos, is_some, Some, None, Ok, Option}
+use Rattle.std.specs.Prelude.{◌≡◌, ℕ, ◌≤◌, true, false, ◌≢◌, List, [], ◌∷◌, ◌++◌, map, fold, pos, is_some, Some, None, Ok, Option}
 use Rattle.faults.specs.declared.Fault.{Fault}
 use Rattle.rules.specs.Investees.{SameNumbers}
 use Rattle.rules.specs.Tables.{Tables}
@@ -9,9 +9,10 @@ use Rattle.rules.specs.declared.investees.InvesteeFields.{InvesteeFields}
 use Rattle.sources.specs.declared.reading.Reading.{Reading}
 use Rattle.plain.specs.declared.answers.Answer.{Answer}
 use Rattle.plain.specs.declared.answers.Answer.TheVariants.{Declined}
+use Rattle.plain.specs.Changes.{changed}
 use Rattle.plain.specs.Kept.{KeptByEveryRun}
 use Rattle.plain.specs.PlainBook.{PlainInvestee, PlainPosition, PlainBook, id_of, investee_of, position_of, balance_of}
-use Rattle.plain.specs.Runs.{after, answer, ReachedByARun}
+use Rattle.plain.specs.Runs.{after, answer, run, AllAccepted, ReachedByARun}
 use Rattle.plain.specs.Steps.{Meaning, Step, enter, restate, reduce, post, amend, ask, WithinSourceLimits}
 
 -- ---- what can be looked up, beside the investee of an id
@@ -120,5 +121,7 @@ pub record OneCall (t : Tables) (p : PlainBook) (c : Step) (a : Answer) (q : Pla
 pub record EachCallChangesWhatItNames : Type 0 where
   pub where_accepted : (t : Tables) (p : PlainBook) (c : Step) → KeptByEveryRun p → ((f : Fault) → answer t p c ≢ Declined f) → ChangesWhatItNames c p (after t p c)
   pub where_declined : (t : Tables) (p : PlainBook) (c : Step) (f : Fault) → answer t p c ≡ Declined f → after t p c ≡ p
-  -- so that both hold of one call, with the book and the answer that the definitions give
+  -- so that a run of accepted calls makes their changes one after the other
+  pub run_of_accepted : (t : Tables) (p : PlainBook) (calls : List Step) → AllAccepted t p calls → run t p calls ≡ fold changed p calls
+  -- and so it is of one call, with the book and the answer that the definitions give
   pub as_one_call : (t : Tables) (p : PlainBook) (c : Step) → WithinSourceLimits c → KeptByEveryRun p → OneCall t p c (answer t p c) (after t p c)

@@ -74,6 +74,7 @@ pub record KeptByEveryRun (p : PlainBook) : Type 0 where
   -- a branch has one position on an investee
   pub positions_differ : Pairwise (λ q r. r.id ≡ q.id → r.branch ≢ q.branch) p.positions
   pub exposures_within_limit : AllByRecursion (λ x. exposure_to x p.positions ≤ most_exposure) p.investees
+  -- a bond has a balance in the last month alone
   pub bonds_at_closing_only : AllByRecursion (λ x. BondAtClosing x (positions_on (id_of x) p.positions)) p.investees
   pub positions_have_posts : AllByRecursion HasPost p.positions
 
