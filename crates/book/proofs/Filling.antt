@@ -20,10 +20,3 @@ module _ {F B : Type 0} (g : Mut F (ℕ × Unit {0}) B) (f : F) (row : ℕ → B
   made-as d zs made long same =
       ext_get_or d ys zs (made.long ∙ sym long)
       (λ k lt. made-at 0 most (omega arith) made.each k d (omega arith) (omega (arith, lt, made.long)) ∙ same k (omega (arith, lt, made.long)))
-
-  -- the same of its first rows
-  pub made-front : (d : B) (zs : List B) (n : ℕ) → IsFromFnResult g f ys most → n ≤ most → length zs ≡ n → ((k : ℕ) → k < n → row k ≡ get_or zs k d) → take n ys ≡ zs
-  made-front d zs n made fits long same =
-      let front : length (take n ys) ≡ n = length-take-le n ys (omega (arith, fits, made.long)) in
-      ext_get_or d (take n ys) zs (front ∙ sym long)
-      (λ k lt. get_or-take n ys k d (omega (arith, lt, front)) ∙ made-at 0 most (omega arith) made.each k d (omega arith) (omega (arith, lt, front, fits)) ∙ same k (omega (arith, lt, front)))

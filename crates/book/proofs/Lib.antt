@@ -1,5 +1,4 @@
 pub mod Propositions
-pub mod Finding
 pub mod Filling
 pub mod Books
 pub mod Outcomes

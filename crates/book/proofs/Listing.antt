@@ -1,17 +1,30 @@
--- What stands at each place of a table that lists fewer rows than it has places.
-use Rattle.std.proofs.Common.{◌≡◌, ℕ, ◌-◌, ◌<◌, ◌≤◌, List, map, length, get_or, replicate, Some, None, Option, sym, ap, ◌∙◌, ⊎_elim, arith}
-use Rattle.std.specs.List.{slice_get}
-use Rattle.std.proofs.lemmas.List.{length-map, length-append, length-replicate, get_or-map, get_or_append_left, get_or-append_right, get_or-replicate}
-use Rattle.std.proofs.lemmas.Option.{slice_get_cases}
+-- Tables with a row for each element of a list.
+use Rattle.std.proofs.Common.{◌≡◌, ℕ, suc, ◌+◌, ◌-◌, ◌<◌, ◌≤◌, List, [], ◌∷◌, ◌++◌, map, length, get_or, replicate, set, take, Some, None, Option, sym, refl, ap, ◌∙◌, append_assoc, arith}
+use Rattle.std.proofs.lemmas.List.{length-map, length-append, length-take-le, map_push, map_more, set-append_right}
 use Rattle.book.specs.Listed.{listed}
 
-pub listed-long : {X : Type 0} (n : ℕ) (xs : List X) → length xs ≤ n → length (listed n xs) ≡ n
-listed-long {X} n xs few = length-append (map Some xs) (replicate (n - length xs) None) ∙ omega (arith, few, length-map xs Some, length-replicate {A = Option X} (n - length xs) None)
+-- one element more is written at the first place without one
+listed-more : {X : Type 0} (n : ℕ) (xs : List X) (y : X) → length xs < n → set (listed n xs) (length xs) (Some y) ≡ listed n (xs ++ y ∷ [])
+listed-more {X} n xs y room =
+    let k = length xs in
+    let m = n - length (xs ++ y ∷ []) in
+    let more : length (xs ++ y ∷ []) ≡ k + 1 = length-append xs (y ∷ []) in
+    let left : n - k ≡ suc m = omega (arith, room, more) in
+    let first : k - k ≡ 0 = omega arith in
+    set-append_right (map Some xs) (replicate (n - k) None) k k (Some y) (length-map xs Some) (omega arith)
+    ∙ (λ i. map Some xs ++ set (replicate {A = Option X} (left i) None) (first i) (Some y))
+    ∙ sym (ap (λ l. l ++ replicate m None) (map_push Some xs y) ∙ append_assoc (map Some xs) (Some y ∷ []) (replicate m None))
 
-pub listed-at : {X : Type 0} (n : ℕ) (xs : List X) (k : ℕ) (d : Option X) → length xs ≤ n → k < n → slice_get xs k ≡ get_or (listed n xs) k d
-listed-at n xs k d few lt =
-    let left = n - length xs in
-    ⊎_elim
-    (λ h. h.2 ∙ sym (get_or_append_left (map Some xs) (replicate left None) d k (omega (arith, h.1, length-map xs Some)) ∙ get_or-map Some xs k h.0 d h.1 ∙ ap Some h.3))
-    (λ h. h.1 ∙ sym (get_or-append_right (map Some xs) (replicate left None) (length xs) k d (length-map xs Some) h.0 ∙ get_or-replicate left (k - length xs) None d (omega (arith, h.0, lt))))
-    (slice_get_cases xs k).1
+-- the rows of a list before a place, and then the row there
+pub listed-next : {X Y : Type 0} (n : ℕ) (f : X → Y) (xs : List X) (k : ℕ) (d : X) → k < length xs → length xs ≤ n → (y : Y) → y ≡ f (get_or xs k d)
+    → set (listed n (map f (take k xs))) k (Some y) ≡ listed n (map f (take (k + 1) xs))
+listed-next n f xs k d lt few y is =
+    let before : length (map f (take k xs)) ≡ k = length-map (take k xs) f ∙ length-take-le k xs (omega (arith, lt)) in
+    ap (λ i. set (listed n (map f (take k xs))) i (Some y)) (sym before)
+    ∙ listed-more n (map f (take k xs)) y (omega (arith, before, lt, few))
+    ∙ ap (λ z. listed n (map f (take k xs) ++ z ∷ [])) is
+    ∙ ap (listed n) (sym (map_more f xs k d lt))
+
+pub mapped-twice : {X Y Z : Type 0} (f : Y → Z) (g : X → Y) (xs : List X) → map (λ x. f (g x)) xs ≡ map f (map g xs)
+mapped-twice f g [] = refl
+mapped-twice f g (x ∷ xs) = ap (λ ys. f (g x) ∷ ys) (mapped-twice f g xs)

@@ -16,7 +16,8 @@ mod readings;
 mod restating;
 mod running;
 
-// One lender's book under one rule, with room for all that it can hold: no call wants memory.
+/// One lender's book of a year under one rule: up to 200 investees and 500 positions, which lie in the value itself. So no call wants
+/// memory; and a book is large, some 88,000 bytes, so make it where it stays and lend it from there.
 #[derive(Drop)]
 pub struct Book<'r, R: Rule> {
     // Each call says by three clauses what the book, its rule and the answer then are: contracts are read one by one.

@@ -18,14 +18,15 @@ pub struct InvesteeRow {
     pub reduction: Option<i64>,
 }
 
-// What fills the places of a table that have no investee yet. Nothing reads it.
+// What fills the places of a table that have no investee yet. Nothing reads it. Numbers of 0, as far as a profile may have
+// them, since such rows are filled in fastest.
 impl Default for InvesteeRow {
     fn default() -> InvesteeRow {
         let profile = Profile {
             id: 1,
-            kind: Kind::GeneralLoan,
+            kind: Kind::Project,
             sector: 0,
-            size: Size::Person,
+            size: Size::Large,
             days: 0,
             figures: Figures::default(),
         };

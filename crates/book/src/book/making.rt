@@ -10,7 +10,7 @@ use positions::Positions;
 use rules::rule::Rule;
 
 impl<'r, R: Rule> Book<'r, R> {
-    // A book without investees under a rule.
+    /// A book without investees under a rule.
     pub fn new(rule: &'r R) -> Book<'r, R>
         ensures empty { plain result ≡ empty }
         ensures rule { result.rule.now ≡ rule.now }

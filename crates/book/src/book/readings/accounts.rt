@@ -1,5 +1,5 @@
 // The readings of one investee, the part of a branch and the total, and the totals of all.
-ghost use Rattle.std.specs.Prelude.{◌≡◌, slice_get};
+ghost use Rattle.std.specs.Prelude.{◌≡◌};
 ghost use Rattle.plain.specs.declared.answers.Answer.TheVariants.{Part, Total};
 ghost use Rattle.plain.specs.Limits.{most_investees};
 ghost use Rattle.plain.specs.Readings.{account_of, accounts_of};
@@ -16,7 +16,6 @@ use faults::{Fault, Refusal};
 use plain::answers::{InvesteeAccount, InvesteeTotal, Kilograms};
 use plain::limits::{MOST_INVESTEES, branch_out_of_range};
 use rules::rule::Rule;
-use std::array;
 
 impl<'b, 'r, R: Rule> Held<'b, 'r, R> {
     // The investee by its id, with its total.
@@ -50,19 +49,16 @@ impl<'r, R: Rule> Book<'r, R> {
         Ok(Held { book: self, row }.total())
     }
 
-    // The investee at a place in the order of the openings; None after the last.
-    fn account_at(&self, place: usize) -> Option<InvesteeAccount>
-        ensures { result ≡ slice_get (accounts_of (R.tables self.now.rule.now) (plain self.now)) place }
-    {
-        let row = *self.investees.as_slice().get(place)?;
-        Some(Held { book: self, row }.account())
-    }
-
-    // Every investee with its total, in the order of the openings, and None in the places after them: a table like that of
-    // `sheets`, so that a page goes over both alike.
+    /// Every investee with its total, in the order of the openings, and None in the places after them: a table like that of
+    /// `sheets`, so that a page goes over both alike.
     pub fn accounts(&self) -> [Option<InvesteeAccount>; MOST_INVESTEES]
         ensures { result ≡ listed most_investees (accounts_of (R.tables self.now.rule.now) (plain self.now)) }
     {
-        array::from_fn(|place| self.account_at(place))
+        let mut accounts = [None; MOST_INVESTEES];
+        // By index, as in `add_parts`; and no `from_fn`, as in `lines`.
+        for (place, &row) in self.investees.as_slice().iter().enumerate() {
+            accounts[place] = Some(Held { book: self, row }.account());
+        }
+        accounts
     }
 }

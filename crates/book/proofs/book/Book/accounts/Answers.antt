@@ -1,20 +1,36 @@
-use Rattle.std.proofs.Common.{◌≤◌, length, None, arith, rules, tests}
-use Rattle.std.proofs.lemmas.List.{length-map}
-use Rattle.std.specs.List.{slice_get}
+use Rattle.std.proofs.Common.{◌≡◌, map, take, length, set, Some, refl, ap, ◌∙◌, arith, take_all}
+use Rattle.std.proofs.ByRecursion.{All-get_or}
 use Rattle.plain.specs.Limits.{most_investees}
-use Rattle.plain.specs.Readings.{account_of, accounts_of}
-use Rattle.book.specs.Rows.{plain_investees}
+use Rattle.plain.specs.Readings.{account_of}
+use Rattle.positions.specs.View.{positions_in}
+use Rattle.book.specs.Listed.{listed}
+use Rattle.book.specs.Rows.{plain_investee}
+use Rattle.book.specs.Standings.{WithinBook}
 use Rattle.book.specs.View.{plain}
-use Rattle.book.proofs.Filling.{made-as}
-use Rattle.book.proofs.Propositions.{kept_of}
-use Rattle.book.proofs.Listing.{listed-long, listed-at}
+use Rattle.book.proofs.Listing.{listed-next, mapped-twice}
+use Rattle.book.proofs.WithinBook.{rows-within}
 use Rattle.book.proofs.book.Book.accounts.Goals as goal
+
+pub invariant_of-account : goal.invariant_of-account
+invariant_of-account g c =
+    let book = c.args.self.now in
+    let read = c.as_slice-row-items.result.now in
+    let all = rows-within book.investees.items book.positions book.kept read c.as_slice-row-items.ensures.value in
+    record { within = ∣ All-get_or (λ row. WithinBook (positions_in book.positions) (plain_investee row)) read c.loop-place.place _ c.loop-place-test.true all ∣₁ }
+
+pub loop-place-init : goal.loop-place-init
+loop-place-init g c = refl
+
+pub loop-place-preserved : goal.loop-place-preserved
+loop-place-preserved g c =
+    let book = c.args.self.now in
+    ap (λ xs. set xs c.loop-place.place (Some c.account.result)) c.loop-place.invariant
+    ∙ listed-next most_investees (λ x. account_of (g.R.Rule.tables book.rule.now) (plain book) (plain_investee x)) c.as_slice-row-items.result.now c.loop-place.place _ c.loop-place-test.true c.as_slice-row-items.ensures.fits c.account.result c.account.ensures
 
 pub returns : goal.returns
 returns g c =
-    let all = accounts_of (g.R.Rule.tables c.args.self.now.rule.now) (plain c.args.self.now) in
-    let rows = c.args.self.now.investees.items in
-    let few : length all ≤ most_investees = omega (arith, length-map (plain_investees rows) (account_of (g.R.Rule.tables c.args.self.now.rule.now) (plain c.args.self.now)), (kept_of _ c.args.self.now.kept).investees_within_limit) in
-    made-as _ _ (slice_get all) c.from_fn.result most_investees
-    (λ k lt y q called. (search (rules, tests), search (rules, tests)))
-    None _ c.from_fn.ensures.items (listed-long most_investees all few) (λ k lt. listed-at most_investees all k None few lt)
+    let book = c.args.self.now in
+    let f = account_of (g.R.Rule.tables book.rule.now) (plain book) in
+    c.loop-place.invariant
+    ∙ ap (λ xs. listed most_investees (map (λ x. f (plain_investee x)) xs)) (take_all c.loop-place.place c.as_slice-row-items.result.now c.loop-place-test.false ∙ c.as_slice-row-items.ensures.value)
+    ∙ ap (listed most_investees) (mapped-twice f plain_investee book.investees.items)

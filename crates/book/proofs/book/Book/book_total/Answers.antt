@@ -1,4 +1,4 @@
-use Rattle.std.proofs.Common.{◌≡◌, ◌-◌, take, length, ap, ◌∙◌, arith}
+use Rattle.std.proofs.Common.{◌≡◌, ap, ◌∙◌}
 use Rattle.plain.specs.declared.answers.Answer.TheVariants as answers
 use Rattle.book.specs.View.{plain}
 use Rattle.book.proofs.BookTotals.{lines-within, book-total-told}
@@ -10,13 +10,11 @@ pub invariant_of-total : goal.invariant_of-total
 invariant_of-total g c =
     let book = c.args.self.now in
     let kept = kept_of (plain book) book.kept in
-    let read : c.len.result - 0 ≡ length book.investees.items = omega arith in
-    let all = lines-within (g.R.Rule.tables book.rule.now) (plain book) kept _ (ap (λ n. take n c.lines-table.result) read ∙ c.lines-table.ensures) (all-within (plain book) kept) in
+    let all = lines-within (g.R.Rule.tables book.rule.now) (plain book) kept _ (c.as_slice-lines.ensures.value ∙ c.lines-table.ensures) (all-within (plain book) kept) in
     record { few = all.0; within = ∣ all.1 ∣₁ }
 
 pub returns : goal.returns
 returns g c =
     let book = c.args.self.now in
     let kept = kept_of (plain book) book.kept in
-    let read : c.len.result - 0 ≡ length book.investees.items = omega arith in
-    ap answers.Book (c.total.ensures ∙ book-total-told (g.R.Rule.tables book.rule.now) (plain book) kept _ (ap (λ n. take n c.lines-table.result) read ∙ c.lines-table.ensures) (all-within (plain book) kept))
+    ap answers.Book (c.total.ensures ∙ book-total-told (g.R.Rule.tables book.rule.now) (plain book) kept _ (c.as_slice-lines.ensures.value ∙ c.lines-table.ensures) (all-within (plain book) kept))

@@ -1,18 +1,34 @@
-use Rattle.std.proofs.Common.{◌≤◌, map, length, get_or, refl, ◌∙◌, arith, rules, tests}
-use Rattle.std.proofs.lemmas.List.{length-map}
-use Rattle.plain.specs.Limits.{most_investees}
-use Rattle.book.specs.Lines.{line_of, no_line}
-use Rattle.book.specs.Rows.{plain_investee, plain_investees}
+use Rattle.std.proofs.Common.{◌≡◌, map, take, length, get_or, [], ◌∷◌, ◌++◌, sym, ap, ◌∙◌, arith, take_all}
+use Rattle.std.proofs.ByRecursion.{All-get_or}
+use Rattle.std.proofs.lemmas.List.{map_more}
+use Rattle.positions.specs.View.{positions_in}
+use Rattle.book.specs.Lines.{line_of}
+use Rattle.book.specs.Rows.{plain_investee}
+use Rattle.book.specs.Standings.{WithinBook}
 use Rattle.book.specs.View.{plain}
-use Rattle.book.proofs.Filling.{made-front}
-use Rattle.book.proofs.Propositions.{kept_of}
+use Rattle.book.proofs.Listing.{mapped-twice}
+use Rattle.book.proofs.WithinBook.{rows-within}
 use Rattle.book.proofs.book.Book.lines.Goals as goal
+
+pub invariant_of-line : goal.invariant_of-line
+invariant_of-line g c =
+    let book = c.args.self.now in
+    let read = c.as_slice-row-items.result.now in
+    let all = rows-within book.investees.items book.positions book.kept read c.as_slice-row-items.ensures.value in
+    record { within = ∣ All-get_or (λ row. WithinBook (positions_in book.positions) (plain_investee row)) read c.loop-row.row-index _ c.loop-row-test.true all ∣₁ }
+
+pub loop-row-preserved : goal.loop-row-preserved
+loop-row-preserved g c =
+    let book = c.args.self.now in
+    let read = c.as_slice-row-items.result.now in
+    c.push.ensures.items
+    ∙ (λ i. c.loop-row.invariant i ++ c.line.ensures i ∷ [])
+    ∙ sym (map_more (λ x. line_of (g.R.Rule.tables book.rule.now) (plain book) (plain_investee x)) read c.loop-row.row-index _ c.loop-row-test.true)
 
 pub returns : goal.returns
 returns g c =
-    let rows = c.args.self.now.investees.items in
-    let f = line_of (g.R.Rule.tables c.args.self.now.rule.now) (plain c.args.self.now) in
-    let few : length rows ≤ most_investees = omega (arith, (kept_of _ c.args.self.now.kept).investees_within_limit, length-map rows plain_investee) in
-    made-front _ _ (λ k. get_or (map f (plain_investees rows)) k no_line) c.from_fn.result most_investees
-    (λ k lt y q called. (search (rules, tests), search (rules, tests)))
-    no_line (map f (plain_investees rows)) (length rows) c.from_fn.ensures.items few (length-map (plain_investees rows) f ∙ length-map rows plain_investee) (λ k lt. refl)
+    let book = c.args.self.now in
+    let f = line_of (g.R.Rule.tables book.rule.now) (plain book) in
+    c.loop-row.invariant
+    ∙ ap (map (λ x. f (plain_investee x))) (take_all c.loop-row.row-index c.as_slice-row-items.result.now c.loop-row-test.false ∙ c.as_slice-row-items.ensures.value)
+    ∙ mapped-twice f plain_investee book.investees.items

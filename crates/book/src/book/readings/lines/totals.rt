@@ -1,19 +1,19 @@
 // The book total.
-ghost use Rattle.std.specs.Prelude.{◌≡◌, map, length, slice_index_or, take};
+ghost use Rattle.std.specs.Prelude.{◌≡◌, map};
 ghost use Rattle.plain.specs.declared.answers.Answer.TheVariants.{Book as BookAnswer};
 ghost use Rattle.plain.specs.Runs.{answer_to};
 ghost use Rattle.plain.specs.Steps.{for_book_total};
-ghost use Rattle.book.specs.Lines.{line_of, no_line};
+ghost use Rattle.book.specs.Lines.{line_of};
 ghost use Rattle.book.specs.Rows.{plain_investee};
 ghost use Rattle.book.specs.View.{plain};
 
 use crate::book::Book;
 use crate::book::readings::Held;
 use crate::book::readings::lines::{Line, Lines, is_project};
+use arrayvec::ArrayVec;
 use plain::answers::BookTotal;
 use plain::limits::MOST_INVESTEES;
 use rules::rule::Rule;
-use std::array;
 
 impl<'b, 'r, R: Rule> Held<'b, 'r, R> {
     // What it adds to the book's totals.
@@ -34,31 +34,25 @@ impl<'b, 'r, R: Rule> Held<'b, 'r, R> {
 }
 
 impl<'r, R: Rule> Book<'r, R> {
-    // The line of the investee at a place in the order of the openings; an empty one after the last.
-    fn line_at(&self, place: usize) -> Line
-        ensures { result ≡ slice_index_or (map (line_of (R.tables self.now.rule.now) (plain self.now)) (plain self.now).investees) place no_line }
+    // The lines of all investees, in the order of their openings.
+    fn lines(&self) -> ArrayVec<Line, MOST_INVESTEES>
+        ensures { result.items ≡ map (line_of (R.tables self.now.rule.now) (plain self.now)) (plain self.now).investees }
     {
-        let Some(&row) = self.investees.as_slice().get(place) else {
-            return Line::default();
-        };
-        Held { book: self, row }.line()
+        let mut lines = ArrayVec::new();
+        // A loop, and no `array::from_fn`: the table of a closure is moved at each call that hands it on.
+        for &row in self.investees.as_slice() {
+            lines.push(Held { book: self, row }.line());
+        }
+        lines
     }
 
-    // The lines of all investees, in the order of their openings. The rest of the table stays empty: an array is made by one
-    // closure, and an ArrayVec would be filled by a loop.
-    fn lines(&self) -> [Line; MOST_INVESTEES]
-        ensures { take (length self.now.investees.items) result ≡ map (line_of (R.tables self.now.rule.now) (plain self.now)) (plain self.now).investees }
-    {
-        array::from_fn(|place| self.line_at(place))
-    }
-
-    // What falls to all branches for all investees: for projects, for the rest and for all, with the shares of the
-    // positions that this covers, and the mean grade.
+    /// What falls to all branches for all investees: for projects, for the rest and for all, with the shares of the
+    /// positions that this covers, and the mean grade.
     pub fn book_total(&self) -> BookTotal
         ensures { BookAnswer result ≡ answer_to (R.tables self.now.rule.now) (plain self.now) for_book_total }
     {
         let table = self.lines();
-        let lines = &table[0..self.investees.len()];
+        let lines = table.as_slice();
         Lines { lines }.total()
     }
 }
