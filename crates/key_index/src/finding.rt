@@ -23,14 +23,14 @@ impl<const MOST: usize> KeyIndex<MOST> {
         None
     }
 
-    // Where a key stands first.
+    /// Where a key stands first. Places are counted from 0.
     pub fn first(&self, key: u64) -> Option<usize>
         ensures { result ≡ first_place key (keys_in self.now) }
     {
         self.find(self.firsts[bucket_of(key)], key)
     }
 
-    // Where the key that stands at a place stands next; nowhere past the end.
+    /// Where the key that stands at a place stands next; nowhere past the end.
     pub fn after(&self, at: usize) -> Option<usize>
         ensures { result ≡ next_place at (keys_in self.now) }
     {

@@ -22,7 +22,7 @@ struct Link {
     next: Option<usize>,
 }
 
-// A list of at most MOST keys, with room for all of them.
+/// A list of at most MOST keys, which lie in the value itself, with an index by which each is found.
 #[derive(Drop)]
 pub struct KeyIndex<const MOST: usize> {
     links: ArrayVec<Link, MOST>,

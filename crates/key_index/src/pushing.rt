@@ -25,7 +25,7 @@ fn lead_on<const MOST: usize>(links: &mut ArrayVec<Link, MOST>, from: Option<usi
 }
 
 impl<const MOST: usize> KeyIndex<MOST> {
-    // An index without keys.
+    /// An index without keys.
     pub fn new() -> KeyIndex<MOST>
         ensures { keys_in result ≡ [] }
     {
@@ -36,7 +36,7 @@ impl<const MOST: usize> KeyIndex<MOST> {
         }
     }
 
-    // Adds a key at the end, and gives it back where there is no room.
+    /// Adds a key at the end, and gives it back where there is no room.
     pub fn push(&mut self, key: u64) -> Result<(), u64>
         ensures keys { keys_in self.new ≡ (if nat_le MOST (length (keys_in self.old)) then keys_in self.old else keys_in self.old ++ key ∷ []) }
         ensures told { result ≡ (if nat_le MOST (length (keys_in self.old)) then Err key else Ok tt) }

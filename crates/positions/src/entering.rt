@@ -16,7 +16,7 @@ use key_index::KeyIndex;
 use plain::limits::full_of_positions;
 
 impl Positions {
-    // A table without positions.
+    /// A table without positions.
     pub fn new() -> Positions
         ensures { positions_in result ≡ [] }
     {
@@ -48,21 +48,21 @@ impl Positions {
         Some(self.rows.as_slice()[self.place(branch, id)?])
     }
 
-    // The balance of a month of a branch on the investee of an id, if it was posted.
+    /// The balance of a month of a branch on the investee of an id, in wan, if it was posted.
     pub fn balance(&self, branch: u64, id: u64, month: u64) -> Option<u32>
         ensures { result ≡ (if in_year month then balance_in month (position_of branch id (positions_in self.now)) else None) }
     {
         self.position(branch, id)?.balance(month)
     }
 
-    // How many positions there are.
+    /// How many positions there are, 500 at most.
     pub fn len(&self) -> usize
         ensures { result ≡ length (positions_in self.now) }
     {
         self.rows.len()
     }
 
-    // Whether the position would be a new one, for which there is no room: it is looked for only in a full table.
+    /// Whether the position would be a new one, for which there is no room: it is looked for only in a full table.
     pub fn no_room_for(&self, branch: u64, id: u64) -> bool
         ensures { result ≡ no_room_for branch id (positions_in self.now) }
     {
@@ -94,8 +94,8 @@ impl Positions {
         }
     }
 
-    // Enters the balance of a month, at a new position if there is none, and says whether it could: the year has the month,
-    // and there is a position or room for one. A bool, since nothing else is to say: a book asks before why it could not.
+    /// Enters the balance of a month, at a new position if there is none, and says whether it could: the year has the month,
+    /// and there is a position or room for one. A bool, since nothing else is to say: a book asks before why it could not.
     pub fn enter(&mut self, branch: u8, id: u32, month: u64, balance: u32) -> bool
         ensures entered { result ≡ can_enter branch id month (positions_in self.old) }
         ensures positions { positions_in self.new ≡ (if result then posted branch id month balance (positions_in self.old) else positions_in self.old) }
@@ -110,7 +110,7 @@ impl Positions {
         true
     }
 
-    // Replaces the balance of a month of a position, if there is one.
+    /// Replaces the balance of a month of a position, if there is one.
     pub fn replace(&mut self, branch: u8, id: u32, month: u64, balance: u32)
         ensures { positions_in self.new ≡ (if in_year month then amended branch id month balance (positions_in self.old) else positions_in self.old) }
     {

@@ -25,7 +25,7 @@ mod rows_on;
 // A place for the balance of each month of the year.
 const YEAR: usize = MONTHS as usize;
 
-// What one branch has lent to one investee, in wan, by months.
+// What one branch has lent to one investee, in wan, by months. One of branch 0 fills the places that have none yet.
 #[derive(Clone, Copy, Default)]
 struct PositionRow {
     branch: u8,
@@ -33,7 +33,7 @@ struct PositionRow {
     balances: [Option<u32>; YEAR],
 }
 
-// A table of positions with room for all that a book can hold. The positions on an investee are found by its id.
+/// A table of positions with room for all that a book can hold, in the value itself. The positions on an investee are found by its id.
 #[derive(Drop)]
 pub struct Positions {
     rows: ArrayVec<PositionRow, MOST_POSITIONS>,
