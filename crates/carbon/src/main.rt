@@ -32,8 +32,8 @@ fn fill<R: Read>(reader: &mut R, buffer: &mut [u8]) -> io::Result<usize>
 fn main(rt: HostRuntime) -> io::Result<()> {
     // One byte more than a file may have, so that a longer one is seen.
     let mut bytes = [0; MOST_BYTES + 1];
+    let mut page = [0; ROOM];
     let filled = fill(&mut rt.stdin(), &mut bytes)?;
-    let mut buffer = [0; ROOM];
-    let length = answer(&bytes[..filled], &mut buffer).unwrap();
-    rt.stdout().write_all(&buffer[..length])
+    let length = answer(&bytes[..filled], &mut page).unwrap();
+    rt.stdout().write_all(&page[..length])
 }
