@@ -2,7 +2,7 @@
 use Rattle.std.proofs.Common.{◌≡◌, ℕ, suc, ◌+◌, List, [], ◌∷◌, ◌++◌, map, length, take, drop, Some, None, Ok, Err, Option, Result, sym, refl, ap, ◌∙◌, subst, add-zero, arith}
 use Rattle.faults.specs.declared.Fault.{Fault}
 use Rattle.std.specs.List.{AllByRecursion}
-use Rattle.rules.specs.Tables.{Tables}
+use Rattle.rules.specs.Tables.{Tables, Lawful}
 use Rattle.sources.specs.Readings.{WithinLimits}
 use Rattle.sources.specs.Within.{reported-within, physical-within, economic-within, overseas-within, offset-within}
 use Rattle.entries.specs.Entries.{PlainEntry, PlainMethod, PlainPortfolio, report, bill, sector_mean, method_meaning, entry_meaning}
@@ -11,7 +11,8 @@ use Rattle.entries.specs.Stops.{stop_at}
 use Rattle.entries.specs.declared.investee.PostEntry.{PostEntry}
 use Rattle.entries.specs.declared.stop.Stop.{Stop}
 use Rattle.plain.proofs.EveryRun.{every-run-keeps}
-use Rattle.plain.specs.EveryRun.{HoldsWhole}
+use Rattle.plain.specs.EveryRun.{HoldsWhole, ReachedByARun}
+use Rattle.plain.specs.Kept.{KeptByEveryRun}
 use Rattle.plain.specs.PlainBook.{PlainBook, empty}
 use Rattle.plain.specs.Refused.{declined}
 use Rattle.plain.specs.Runs.{after, run, unless}
@@ -99,6 +100,15 @@ entered-in-order f =
       tried_in_order = order;
       holds = subst (HoldsWhole t) (sym order.book_of_these) (every-run-keeps.from_the_start t (guide-lawful f.guide) (entries_of f) within order.accepted);
     }
+
+-- ---- a portfolio on any book
+
+pub in-order : (t : Tables) (p : PlainBook) (f : PlainPortfolio) (o : Outcome) → o ≡ tried t first_entry_line p (entries_of f) → TriedInOrder t first_entry_line p (entries_of f) o
+in-order t p f o is = subst (TriedInOrder t first_entry_line p (entries_of f)) (sym is) (tried_in_order t first_entry_line p (entries_of f))
+
+pub whole-after : (t : Tables) → Lawful t → (p : PlainBook) → KeptByEveryRun p → (f : PlainPortfolio) (o : Outcome) → TriedInOrder t first_entry_line p (entries_of f) o → ReachedByARun t p → HoldsWhole t o.book
+whole-after t lawful p kept f o order reached =
+    subst (HoldsWhole t) (sym order.book_of_these) (((every-run-keeps.going_on t lawful p kept (entries_of f) (entries-within f)).of_a_reached_book reached).0 order.accepted)
 
 -- ---- whole files
 

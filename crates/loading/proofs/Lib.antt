@@ -1,4 +1,4 @@
 mod Appending
 mod Cursors
-mod InOrder
+pub mod InOrder
 mod OneByOne

@@ -6,12 +6,10 @@ use Rattle.entries.specs.declared.guide.Guide.{Guide}
 use Rattle.entries.specs.declared.stop.Stop.{Stop}
 use Rattle.plain.specs.EveryRun.{HoldsWhole}
 use Rattle.plain.specs.PlainBook.{empty}
-use Rattle.book.specs.View.{plain}
 use Rattle.portfolio.specs.Layout.{layout_of}
 use Rattle.portfolio.specs.Refused.{RefusesRightly}
 use Rattle.portfolio.specs.Text.{IsTextOf}
 use Rattle.loading.specs.Trying.{Outcome, TriedInOrder, entries_of, first_entry_line, tried}
-use Rattle.loading.specs.declared.loaded.Loaded.{Loaded}
 
 -- a book under the guide that the file names, with the entries before the first that is declined, and where that stands
 pub record PlainLoaded : Type 0 where
@@ -28,14 +26,6 @@ entered_from (Err s) = Err s
 -- the layout's verdict first: where it refuses, there is no book
 abbrev pub loading_of : List ℕ → Result PlainLoaded Stop
 loading_of bytes = entered_from (layout_of bytes)
-
--- what a program holds after loading
-abbrev pub plain_loaded : Loaded → PlainLoaded
-plain_loaded l = record { guide = l.book.rule.now; outcome = record { book = plain l.book; stop = l.stop } }
-
-abbrev pub seen_loaded : Result Loaded Stop → Result PlainLoaded Stop
-seen_loaded (Ok l) = Ok (plain_loaded l)
-seen_loaded (Err s) = Err s
 
 -- ---- what that means
 

@@ -1,6 +1,4 @@
-// A portfolio file loaded into a new book.
+// The entries of a portfolio file tried in order on a book.
 #![tactic(auto)]
 
-mod entering;
-pub mod loaded;
 pub mod loading;

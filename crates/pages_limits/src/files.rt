@@ -1,8 +1,10 @@
 // Files with what is answered to each: the page of its book, or `X` and where it stops, as line, refusal, place and source.
 use answering::answer::answer;
+use book::book::Book;
 use faults::Fault;
 use loading::loading::load;
 use pages::page::page;
+use portfolio::layout::read;
 use std::alloc::Global;
 use std::test::Fail;
 
@@ -144,11 +146,13 @@ fn entries_before(rt: HostRuntime) -> Result<(), Fail> {
         let (length, buffer) = answered(rt.alloc(), file, 8_192)?;
         assert_eq!(rt; length?, expected.len());
         assert!(rt; holds(buffer.as_slice(), expected), "{}", *file);
-        let Ok(loaded) = load(file.as_bytes()) else {
+        let Ok(portfolio) = read(file.as_bytes()) else {
             return Err(Fail::new("laid out"));
         };
+        let mut book = Book::new(portfolio.guide().lent());
+        assert!(rt; load(&mut book, portfolio).is_err());
         let mut buffer = vec![in rt.alloc(); b'.'; 8_192]?;
-        assert_eq!(rt; page(&loaded.book, buffer.as_mut_slice())?, kept.len());
+        assert_eq!(rt; page(&book, buffer.as_mut_slice())?, kept.len());
         assert!(rt; holds(buffer.as_slice(), kept), "{}", *file);
     }
     Ok(())

@@ -4,7 +4,7 @@ use Rattle.plain.specs.Steps.{Step}
 use Rattle.book.specs.View.{plain}
 use Rattle.loading.specs.Entering.{GivesCalls}
 use Rattle.loading.proofs.OneByOne.{Entering}
-use Rattle.loading.proofs.entering.enter_all.Given as goal
+use Rattle.loading.proofs.loading.enter_all.Given as goal
 
 abbrev pub invariant-loop-entry : goal.invariant-loop-entry
 invariant-loop-entry g l =

@@ -2,7 +2,7 @@ use Rattle.std.proofs.Common.{Some, ap, ◌∙◌, arith}
 use Rattle.book.specs.View.{plain}
 use Rattle.loading.specs.Trying.{outcome}
 use Rattle.loading.proofs.OneByOne.{entering-more, entering-stopped, entering-all}
-use Rattle.loading.proofs.entering.enter_all.Goals as goal
+use Rattle.loading.proofs.loading.enter_all.Goals as goal
 
 pub returns-in-Err-clause-tried : goal.returns-in-Err-clause-tried
 returns-in-Err-clause-tried g c = λ left law.

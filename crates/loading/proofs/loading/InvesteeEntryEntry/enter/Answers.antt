@@ -2,7 +2,7 @@ use Rattle.std.proofs.Common.{refl}
 use Rattle.book.specs.View.{plain}
 use Rattle.loading.specs.Entering.{opening_held}
 use Rattle.loading.proofs.OneByOne.{told-declined}
-use Rattle.loading.proofs.entering.InvesteeEntryEntry.enter.Goals as goal
+use Rattle.loading.proofs.loading.InvesteeEntryEntry.enter.Goals as goal
 
 pub returns-clause-declined : goal.returns-clause-declined
 returns-clause-declined g c =
