@@ -1,4 +1,4 @@
-use Rattle.std.proofs.Common.{◌≡◌, map, take, length, set, Some, refl, ap, ◌∙◌, arith, take_all}
+use Rattle.std.proofs.Common.{map, set, Some, refl, ap, ◌∙◌, take_all}
 use Rattle.std.proofs.ByRecursion.{All-get_or}
 use Rattle.plain.specs.Limits.{most_investees}
 use Rattle.plain.specs.Readings.{account_of}

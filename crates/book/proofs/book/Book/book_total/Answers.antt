@@ -1,4 +1,4 @@
-use Rattle.std.proofs.Common.{◌≡◌, ap, ◌∙◌}
+use Rattle.std.proofs.Common.{ap, ◌∙◌}
 use Rattle.plain.specs.declared.answers.Answer.TheVariants as answers
 use Rattle.book.specs.View.{plain}
 use Rattle.book.proofs.BookTotals.{lines-within, book-total-told}

@@ -1,4 +1,4 @@
-use Rattle.std.proofs.Common.{◌≡◌, map, take, length, get_or, [], ◌∷◌, ◌++◌, sym, ap, ◌∙◌, arith, take_all}
+use Rattle.std.proofs.Common.{map, [], ◌∷◌, ◌++◌, sym, ap, ◌∙◌, take_all}
 use Rattle.std.proofs.ByRecursion.{All-get_or}
 use Rattle.std.proofs.lemmas.List.{map_more}
 use Rattle.positions.specs.View.{positions_in}
