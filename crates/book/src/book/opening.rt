@@ -52,7 +52,13 @@ impl<'r, R: Rule> Book<'r, R> {
         Ok(profile)
     }
 
-    // Enters an investee with a reading of its emissions.
+    /// Enters an investee with a reading of its emissions, in kilograms, and without a reduction.
+    ///
+    /// An id is from 1 to 4,294,967,295, a kind from 1 to 6, a sector from 0 to 8, a size from 1 to 5, days are at most 366, and
+    /// each of the four figures is at most 500,000,000 wan.
+    ///
+    /// Refusals, in their order: 12, a field is out of its range; 14, the id is open; 15, 200 investees are held; the rule's 10
+    /// or 11; the source's own fault; 13, the reading is below 0.
     pub fn open<S: Source>(&mut self, fields: InvesteeFields, source: &S) -> Result<(), Fault>
         ensures book { plain self.new ≡ after (R.tables self.old.rule.now) (plain self.old) (enter fields (S.meaning source.now)) }
         ensures rule { self.new.rule ≡ self.old.rule }

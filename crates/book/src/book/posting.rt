@@ -134,8 +134,14 @@ impl<'r, R: Rule> Book<'r, R> {
         may_lend(self.rule, row, exposure)
     }
 
-    // Enters the balance of a month that has none. The first post of a branch for an investee makes its position. A post and
-    // an amendment are asked by four numbers, since the plain book's steps are.
+    /// Enters the balance, in wan, of a month that has none. The first post of a branch for an investee makes its position.
+    ///
+    /// A branch is from 1 to 40, a month from 1 to 12, and a balance at most 9,000,000.
+    ///
+    /// Refusals, in their order: 20, branch, month or balance is out of its range; 16, the id is not open; 21, a bond, and the
+    /// month is not the last; 22, the month has a balance; 24, the position is new, and 500 are held; 25, the exposure would pass
+    /// 9,000,000; 26, a bond's exposure would pass its denominator.
+    // A post and an amendment are asked by four numbers, since the plain book's steps are.
     pub fn post(&mut self, branch: u64, id: u64, month: u64, balance: u64) -> Result<(), Fault>
         ensures book { plain self.new ≡ after (R.tables self.old.rule.now) (plain self.old) (post branch id month balance) }
         ensures rule { self.new.rule ≡ self.old.rule }
@@ -156,7 +162,9 @@ impl<'r, R: Rule> Book<'r, R> {
         Ok(())
     }
 
-    // Replaces the balance of a month that has one.
+    /// Replaces the balance, in wan, of a month that has one, and touches no other.
+    ///
+    /// Ranges and refusals are those of a post, but that 23, the month has no balance, stands in place of 22 and 24.
     pub fn amend(&mut self, branch: u64, id: u64, month: u64, balance: u64) -> Result<(), Fault>
         ensures book { plain self.new ≡ after (R.tables self.old.rule.now) (plain self.old) (amend branch id month balance) }
         ensures rule { self.new.rule ≡ self.old.rule }

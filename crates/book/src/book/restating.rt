@@ -13,7 +13,9 @@ use rules::rule::Rule;
 use sources::source::Source;
 
 impl<'r, R: Rule> Book<'r, R> {
-    // Replaces the emissions and the grade of an investee by another reading.
+    /// Replaces the emissions, in kilograms, and the grade of an investee by another reading. Its reduction stays.
+    ///
+    /// Refusals, in their order: 16, the id is not open; the source's own fault; 13, the reading is below 0.
     pub fn restate<S: Source>(&mut self, id: u64, source: &S) -> Result<(), Fault>
         ensures book { plain self.new ≡ after (R.tables self.old.rule.now) (plain self.old) (restate id (S.meaning source.now)) }
         ensures rule { self.new.rule ≡ self.old.rule }
@@ -29,7 +31,9 @@ impl<'r, R: Rule> Book<'r, R> {
         Ok(())
     }
 
-    // Sets the reduction of an investee, which may be below zero. Its grade stays that of its emissions.
+    /// Sets the reduction of an investee, in kilograms, which may be below zero. Its grade stays that of its emissions.
+    ///
+    /// Refusals, in their order: 16, the id is not open; the source's own fault.
     pub fn reduce<S: Source>(&mut self, id: u64, source: &S) -> Result<(), Fault>
         ensures book { plain self.new ≡ after (R.tables self.old.rule.now) (plain self.old) (reduce id (S.meaning source.now)) }
         ensures rule { self.new.rule ≡ self.old.rule }

@@ -13,7 +13,7 @@ use rules::rule::Rule;
 use sources::source::Source;
 
 impl<'r, R: Rule> Book<'r, R> {
-    // One call, whichever it is.
+    /// One call, whichever it is. Its answer is what the call of that name gives, or its refusal.
     pub fn apply<S: Source>(&mut self, call: &Call<S>) -> Answer
         ensures book { plain self.new ≡ after (R.tables self.old.rule.now) (plain self.old) (step_of S.meaning call.now) }
         ensures rule { self.new.rule ≡ self.old.rule }
