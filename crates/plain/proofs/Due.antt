@@ -10,7 +10,7 @@ use Rattle.faults.specs.declared.Fault.{Fault}
 use Rattle.faults.specs.declared.Refusal.{Refusal}
 use Rattle.faults.specs.declared.Refusal.TheVariants.{KindNotCovered, FigureNotGiven, FieldOutOfRange, ReadingBelowZero, AlreadyOpen, InvesteesFull, NotOpen, EntryOutOfRange, BondOutsideClosingMonth, MonthAlreadyPosted, MonthNotPosted, PositionsFull, ExposureTooLarge, BondAboveDenominator}
 use Rattle.rules.specs.Investees.{PlainProfile, profile_of, WithinRanges, SameNumbers}
-use Rattle.rules.specs.Kinds.{kind_number, kind_numbered}
+use Rattle.rules.specs.Kinds.{kind_numbered}
 use Rattle.rules.specs.Months.{months}
 use Rattle.rules.specs.Tables.{Tables, BaseInRange}
 use Rattle.rules.specs.declared.figures.Base.{Base}
@@ -28,6 +28,7 @@ use Rattle.plain.specs.Parts.{Denominator, at_least, whole}
 use Rattle.plain.specs.PlainBook.{PlainInvestee, PlainPosition, PlainBook, investee_of, is_open, position_of}
 use Rattle.plain.specs.Refused.{refuse, if_in_range, if_based, if_open, if_read, branch_out_of_range, entry_out_of_range, bond_outside_closing, no_room_for, passes, too_much_lent, below_zero, declined_query}
 use Rattle.plain.specs.Steps.{Query, for_part, for_total, for_sheet, for_book_total, Meaning, enter, restate, reduce, post, amend, ask}
+use Rattle.plain.proofs.Again.{numbered}
 
 -- ---- one place of the order
 
@@ -129,14 +130,6 @@ module _ (id : ℕ) (p : PlainBook) (x : PlainInvestee) (found : investee_of id 
 
 -- ---- openings
 
-kind-of-number : (k : Kind) → kind_numbered (kind_number k) ≡ Some k
-kind-of-number Project = refl
-kind-of-number PropertyDevelopment = refl
-kind-of-number PropertyPurchase = refl
-kind-of-number Vehicle = refl
-kind-of-number GeneralLoan = refl
-kind-of-number Bond = refl
-
 due-fields : (f : InvesteeFields) (next : PlainProfile → Option Fault) (later : List Case) → ((x : PlainProfile) → profile_of f ≡ Ok x → SameNumbers f x → FirstDue later (next x))
     → FirstDue ((FieldOutOfRange due_if (WithinRanges f → ⊥)) ∷ later) (if_in_range (profile_of f) next)
 unfolding FirstDue
@@ -170,7 +163,7 @@ due-based (Err e) Refuses next later range to from rest = by range
 -- the rule refuses the fields just where its table refuses the profile
 rule-refuses : (t : Tables) (f : InvesteeFields) (x : PlainProfile) (refusal : Refusal) → SameNumbers f x → RuleRefuses t f refusal → t.bases x.kind x.figures ≡ Err refusal
 rule-refuses t f x refusal has h =
-    let one : Some h.0 ≡ Some x.kind = sym (kind-of-number h.0) ∙ ap kind_numbered (h.1 ∙ sym has.same_kind) ∙ kind-of-number x.kind in
+    let one : Some h.0 ≡ Some x.kind = sym (numbered h.0) ∙ ap kind_numbered (h.1 ∙ sym has.same_kind) ∙ numbered x.kind in
     let kind : h.0 ≡ x.kind = cc in
     ap₂ t.bases (sym kind) has.same_figures ∙ h.2
 
