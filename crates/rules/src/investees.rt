@@ -15,7 +15,7 @@ pub const LAST_SECTOR: u64 = 8;
 // The most days that a year can have.
 pub const MOST_DAYS: u64 = 366;
 
-/// The largest exposure to one investee in a year, in wan, and so its largest closing balance: a book lets neither pass it.
+/// The largest exposure to one investee in a year, in wan, and so its largest closing balance: no book lets either pass it.
 pub const MOST_EXPOSURE: u64 = 9_000_000;
 
 // The fields of an investee as a caller sends them: each number may be anything.
@@ -29,7 +29,7 @@ pub struct InvesteeFields {
     pub figures: Figures,
 }
 
-/// An investee with its numbers within their ranges, as `checked` makes it: no other can be made.
+/// An investee with its numbers within their ranges: none has others. `InvesteeFields::checked` makes one, or refuses.
 #[derive(Clone, Copy, Debug, PartialEq, Eq)]
 pub struct Profile {
     /// From 1 to `LAST_ID`.
@@ -69,7 +69,7 @@ impl InvesteeFields {
             && self.figures.within_limits()
     }
 
-    // The investee that the fields describe, unless one is outside its range.
+    /// The investee that the fields describe. A field outside its range is `FieldOutOfRange` (12), with place 0 and source 0.
     pub fn checked(self) -> Result<Profile, Fault>
         ensures value { seen_profile result ≡ profile_of self }
         ensures ranges { Checked self (seen_profile result) }
@@ -94,7 +94,7 @@ impl InvesteeFields {
 impl Profile {
     ghost use Rattle.rules.specs.Seen.{plain_profile};
 
-    // How it is financed, by its exposure over the year and its closing balance.
+    /// How it is financed, by its exposure over the year and its closing balance, in wan.
     pub fn financed(self, exposure: u64, closing: u64) -> Financing
         ensures { result ≡ financing_of (plain_profile self) exposure closing }
     {

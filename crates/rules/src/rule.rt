@@ -10,7 +10,8 @@ use crate::kinds::Kind;
 use faults::Refusal;
 
 // A rule answers by two tables, which depend on no earlier call.
-// It shows that its tables are lawful: an amount is 1 to 500,000,000 wan, a refusal is one of two, a reason is at most 9.
+// It shows that its tables are lawful for all that a book can ask: an amount is 1 to 500,000,000 wan, a refusal is one of two, a reason
+// is at most 9.
 pub trait Rule {
     ghost tables: { Self → Tables };
 
@@ -33,7 +34,7 @@ pub struct Attribution {
     pub reason: u8,
 }
 
-// What any rule says of an investee, by its exposure over the year and its closing balance.
+/// What any rule says of an investee, by its exposure over the year and its closing balance, in wan.
 // The two stand beside the investee: a book adds them up from its table of positions.
 pub fn attributed<R: Rule>(rule: &R, investee: Profile, exposure: u64, closing: u64) -> Attribution
     ensures value { result ≡ attribution_of (R.tables rule.now) (plain_profile investee) exposure closing }
