@@ -13,7 +13,7 @@ use operations::work::MOST_ITEMS;
 /// The most bytes of a bill.
 pub const MOST_BYTES: usize = 65_536;
 
-/// One item more than a table may have: it tells a table that is too long, and no further item matters.
+/// One item more than a table may have: with it a table is known to be too long, and no further item matters.
 pub const MOST_HELD: usize = MOST_ITEMS + 1;
 
 /// The items of a bill in their order, as far as they matter.
@@ -47,7 +47,7 @@ fn keep(items: &mut Items, item: Item)
     }
 }
 
-// Every line is read, also where no further item is kept: a line that is wrong is told before that there are too many.
+// Every line is read, also where no further item is kept: the first wrong line is named even if there are too many items.
 fn read_lines(text: &[u8]) -> Result<Items, Malformed>
     requires { length text.now ≤ 65536 }
     ensures { result ≡ held (items_of 1 (pieces 10 text.now)) }
@@ -72,7 +72,7 @@ fn read_lines(text: &[u8]) -> Result<Items, Malformed>
     Ok(items)
 }
 
-/// The items of a bill, line by line from the top, as far as they matter; or why the text is none.
+/// The items of a bill, line by line from the top: the first 65 of them if there are more. Or why the text is no bill.
 pub fn read_bill(text: &[u8]) -> Result<Items, Malformed>
     ensures { result ≡ held (items_in text.now) }
 {
