@@ -200,18 +200,18 @@ surplus-field k fs ns f gs h =
 -- ---- the line
 
 -- what the reading of a line shows of it
-abbrev Told : ℕ → List ℕ → Result (List ℕ) LineError → Type 0
-Told k line (Ok ns) = (length line ≤ 511) × FieldsOfNumbers k (pieces 32 line)
-Told k line (Err e) = WrongNumberLine k line e
+abbrev Shown : ℕ → List ℕ → Result (List ℕ) LineError → Type 0
+Shown k line (Ok ns) = (length line ≤ 511) × FieldsOfNumbers k (pieces 32 line)
+Shown k line (Err e) = WrongNumberLine k line e
 
-line-told : (k : ℕ) (line : List ℕ) → Told k line (line_of k line)
-line-told k line =
+line-shown : (k : ℕ) (line : List ℕ) → Shown k line (line_of k line)
+line-shown k line =
     ⊎_elim
-    (λ over. subst (Told k line) (sym (cond-true (ltb 511 (length line)) _ _ (lt-ltb 511 (length line) over))) over)
-    (λ fits. subst (Told k line) (sym (cond-false (ltb 511 (length line)) _ _ (le-ltb 511 (length line) fits))) (by fits (numbers_of k 0 (pieces 32 line)) refl))
+    (λ over. subst (Shown k line) (sym (cond-true (ltb 511 (length line)) _ _ (lt-ltb 511 (length line) over))) over)
+    (λ fits. subst (Shown k line) (sym (cond-false (ltb 511 (length line)) _ _ (le-ltb 511 (length line) fits))) (by fits (numbers_of k 0 (pieces 32 line)) refl))
     (cases_lt 511 (length line))
   where
-    by : length line ≤ 511 → (r : Result (List ℕ × List (List ℕ)) ℕ) → numbers_of k 0 (pieces 32 line) ≡ r → Told k line (ended (at_field r))
+    by : length line ≤ 511 → (r : Result (List ℕ × List (List ℕ)) ℕ) → numbers_of k 0 (pieces 32 line) ≡ r → Shown k line (ended (at_field r))
     by fits (Err j) is = let (few, wrong) = wrong-field k (pieces 32 line) j is in (fits, few, wrong)
     by fits (Ok (ns, [])) is = (fits, fields-from k 0 (pieces 32 line) ns is)
     by fits (Ok (ns, f ∷ gs)) is = (fits, surplus-field k (pieces 32 line) ns f gs is)
@@ -234,11 +234,11 @@ no-way k line TooLong fits form w = omega (arith, fits, w)
 no-way k line (Field i) fits form w = no-place (FieldsOfNumbers k) (pieces 32 line) i form w.2
 no-way k line Surplus fits form w = no-place (FieldsOfNumbers k) (pieces 32 line) k form w.1
 
-the-way : (k : ℕ) (line : List ℕ) (r : Result (List ℕ) LineError) (e : LineError) → Told k line r → WrongNumberLine k line e → r ≡ Err e
-the-way k line (Ok ns) e told w = absurd (no-way k line e told.0 told.1 w)
-the-way k line (Err d) e told w = ap Err (one-way k line d e told w)
+the-way : (k : ℕ) (line : List ℕ) (r : Result (List ℕ) LineError) (e : LineError) → Shown k line r → WrongNumberLine k line e → r ≡ Err e
+the-way k line (Ok ns) e shown w = absurd (no-way k line e shown.0 shown.1 w)
+the-way k line (Err d) e shown w = ap Err (one-way k line d e shown w)
 
 pub refuses : (k : ℕ) (line : List ℕ) (r : Result (List ℕ) LineError) → r ≡ line_of k line → RefusesWrongNumberLines k line r
 refuses k line r is e =
-    let told : Told k line r = subst (Told k line) (sym is) (line-told k line) in
-    (λ err. subst (Told k line) err told, λ w. the-way k line r e told w)
+    let shown : Shown k line r = subst (Shown k line) (sym is) (line-shown k line) in
+    (λ err. subst (Shown k line) err shown, λ w. the-way k line r e shown w)

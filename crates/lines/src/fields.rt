@@ -6,17 +6,18 @@ ghost use Rattle.lines.specs.Pieces.{left_in};
 use crate::numerals::number;
 use crate::pieces::Pieces;
 
-// Why bytes are not a line of so many numbers.
+/// Why bytes are not a line of so many numbers.
 #[derive(Clone, Copy, Debug, PartialEq, Eq)]
 pub enum LineError {
+    /// More than `MOST_BYTES` bytes.
     TooLong,
-    // The first field, from 0, that is wrong or missing.
+    /// The first field, from 0, that is wrong or missing.
     Field(usize),
-    // A field too many.
+    /// A field too many.
     Surplus,
 }
 
-// The first field, from 0, that is wrong or missing.
+/// The first field, from 0, that is wrong or missing.
 #[derive(Clone, Copy, Debug, PartialEq, Eq)]
 pub struct WrongField(pub usize);
 
@@ -38,7 +39,7 @@ fn next_number(fields: &mut Pieces<'_>) -> Option<u64>
     number(fields.next()?)
 }
 
-// The next K fields as numbers, or the first of them that is wrong or missing; then none is taken.
+/// The next K fields as numbers, or the first of them that is wrong or missing; then none is taken.
 pub fn numbers<const K: usize>(fields: &mut Pieces<'_>) -> Result<[u64; K], WrongField>
     ensures read { numbers_of K 0 (left_in fields.old) ≡ leaving_fields result (left_in fields.new) }
     ensures separator { fields.new.separator ≡ fields.old.separator }

@@ -7,10 +7,11 @@ ghost use Rattle.lines.specs.Render.{AcceptsWhatIsPrinted};
 use crate::fields::{LineError, numbers};
 use crate::pieces::Pieces;
 
-// The most bytes of a line, without its line feed.
+/// The most bytes of a line, without its line feed.
 pub const MOST_BYTES: usize = 511;
 
-// The K numbers of a line, which is given without its line feed.
+/// The K numbers of a line, which is given without its line feed. It is refused if it is too long, and else at its first
+/// field that is wrong, missing or surplus.
 pub fn number_line<const K: usize>(line: &[u8]) -> Result<[u64; K], LineError>
     ensures value { result ≡ line_of K line.now }
     ensures accepts { 0 < K → AcceptsWhatIsPrinted K line.now result }

@@ -2,7 +2,7 @@
 ghost use Rattle.std.specs.Prelude.{◌≡◌, ◌≤◌, length};
 ghost use Rattle.lines.specs.Numerals.{number_of, well_formed, value_of, ReadsWhatIsSpelled};
 
-// The most digits that a number may have.
+/// The most digits that a number may have.
 pub const MOST_DIGITS: usize = 13;
 
 // The field has as many characters as a number may have, and no zero in front of another.
@@ -31,7 +31,7 @@ fn value(field: &[u8]) -> Option<u64>
     Some(n)
 }
 
-// The number that a field spells: 1 to 13 digits, without a leading zero.
+/// The number that a field spells: 1 to 13 digits, without a leading zero.
 pub fn number(field: &[u8]) -> Option<u64>
     ensures value { result ≡ number_of field.now }
     ensures spells { ReadsWhatIsSpelled field.now result }

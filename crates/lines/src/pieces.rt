@@ -20,7 +20,7 @@ fn cut(bytes: &[u8], separator: u8) -> (&[u8], Option<&[u8]>)
     }
 }
 
-// The pieces of some bytes between separators, one after another; there is always at least one.
+/// The pieces of some bytes between separators, one after another; there is always at least one.
 #[derive(Clone, Copy)]
 pub struct Pieces<'a> {
     pub rest: Option<&'a [u8]>,
@@ -28,6 +28,7 @@ pub struct Pieces<'a> {
 }
 
 impl<'a> Pieces<'a> {
+    /// All pieces of these bytes.
     pub fn new(bytes: &'a [u8], separator: u8) -> Pieces<'a>
         ensures pieces { pieces_left result.separator result.rest ≡ pieces separator bytes.now }
         ensures separator { result.separator ≡ separator }

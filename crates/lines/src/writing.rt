@@ -5,9 +5,10 @@ ghost use Rattle.lines.specs.Writing.{Wrote};
 
 use itoa::{Buffer, Integer};
 
-// A buffer, and the place where the next text goes, over what stands there. A `put` that does not fit answers None and
-// changes nothing. An Option: that a text does not fit is all there is to say, and `?` passes it on.
-// No io::Write: a text that does not fit is not written in part, and contracts tell the place after each `put`.
+/// A buffer, and the place where the next text goes, over what stands there. A `put` that does not fit gives None and
+/// changes nothing.
+// An Option: that a text does not fit is all there is to say, and `?` passes it on.
+// No io::Write: a text that does not fit is not written in part, and contracts have the place after each `put`.
 #[derive(Drop)]
 pub struct Writer<'a> {
     pub buffer: &'a mut [u8],
@@ -26,6 +27,7 @@ fn line_length(numbers: &[u64]) -> u128
 }
 
 impl Writer<'_> {
+    /// Any bytes, as they are.
     pub fn put(&mut self, text: &[u8]) -> Option<()>
         ensures wrote { Wrote self.old text.now self.new result }
         ensures unchanged { IfNone result (self.new ≡ self.old) }
@@ -41,6 +43,7 @@ impl Writer<'_> {
         Some(())
     }
 
+    /// One byte.
     pub fn put_byte(&mut self, byte: u8) -> Option<()>
         ensures wrote { Wrote self.old (byte ∷ []) self.new result }
         ensures unchanged { IfNone result (self.new ≡ self.old) }
@@ -48,7 +51,7 @@ impl Writer<'_> {
         self.put(&[byte])
     }
 
-    // A number in decimal, with a minus sign before the digits if it is below zero.
+    /// A number in decimal, with a minus sign before the digits if it is below zero.
     pub fn put_number<I: Integer>(&mut self, n: I) -> Option<()>
         ensures wrote { Wrote self.old (I.text n) self.new result }
         ensures unchanged { IfNone result (self.new ≡ self.old) }
@@ -71,7 +74,7 @@ impl Writer<'_> {
         self.put_byte(b'\n')
     }
 
-    // Numbers in decimal with one space between them, and a line feed.
+    /// Numbers in decimal with one space between them, and a line feed.
     #[tactic(auto, using(crate::proofs::NumberLines::reads_back))]
     pub fn put_numbers(&mut self, numbers: &[u64]) -> Option<()>
         ensures wrote { Wrote self.old (number_line numbers.now) self.new result }

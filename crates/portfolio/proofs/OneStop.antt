@@ -12,7 +12,7 @@ use Rattle.portfolio_lines.specs.Misreads.{place_of}
 use Rattle.portfolio_lines.specs.Numbers.{number_at, numbers_of_first_line, investees_place, posts_place, guide_place}
 use Rattle.portfolio_lines.specs.Places.{LineOf, WrongLine}
 use Rattle.portfolio_lines.specs.declared.misread.Misread.{Misread}
-use Rattle.portfolio_lines.proofs.Places.{Told, one-way, no-way, row-told}
+use Rattle.portfolio_lines.proofs.Places.{Shown, one-way, no-way, row-shown}
 use Rattle.portfolio_lines.proofs.Texts.{row_reads}
 use Rattle.portfolio.specs.Layout.{next_line}
 use Rattle.portfolio.specs.Refused.{Kind, head, form_of, kinds_after, IfLine, AsLaidOut, MissingOrWrong, NotAsLaidOut, StopsAtFirst, FirstLine, WithinLimits, Refused, beyond, at_first_line, at_later_line}
@@ -133,7 +133,7 @@ module _ (bytes : List ℕ) where
   pub not-both : (h : FirstLine bytes) (f : Fault) → MissingOrWrong head (next_line (pieces 10 bytes)) f → ⊥
   not-both h f wrong =
       wrong-reads head (next_line (pieces 10 bytes)) (h.line, h.after) f wrong h.is_there
-      (subst (Told (FieldsOfNumbers numbers_of_first_line) h.line) (first-reads h) (row-told numbers_of_first_line h.line))
+      (subst (Shown (FieldsOfNumbers numbers_of_first_line) h.line) (first-reads h) (row-shown numbers_of_first_line h.line))
 
   one-later : (h k : FirstLine bytes) (s t : Stop) → StopsAtFirst (kinds_after h.investees h.posts) 2 h.after s → StopsAtFirst (kinds_after k.investees k.posts) 2 k.after t → s ≡ t
   one-later h k s t a b =

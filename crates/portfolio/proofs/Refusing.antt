@@ -19,7 +19,7 @@ use Rattle.portfolio_lines.specs.Numbers.{number_at, numbers_of_first_line, inve
 use Rattle.portfolio_lines.specs.Places.{LineOf, WrongLine}
 use Rattle.portfolio_lines.specs.declared.misread.Misread.{Misread}
 use Rattle.portfolio_lines.specs.declared.posts.Key.{Key}
-use Rattle.portfolio_lines.proofs.Places.{Told, row-told, key-told, balance-told, investee-told}
+use Rattle.portfolio_lines.proofs.Places.{Shown, row-shown, key-shown, balance-shown, investee-shown}
 use Rattle.portfolio_lines.proofs.Texts.{row_line, at_all}
 use Rattle.portfolio.specs.Layout.{most_bytes, most_investees, most_posts, PlainHead, missing, not_laid_out, next_line, on_line, in_front, section_of, ended, postings, within_limits, head_by, head_from, head_of, body_of, layout_of}
 use Rattle.portfolio.specs.Refused.{Kind, head, investee, key, balance, form_of, kinds_after, IfLine, AsLaidOut, MissingOrWrong, NotAsLaidOut, StopsAtFirst, FirstLine, WithinLimits, Refused, beyond, at_first_line, at_later_line, RefusesRightly, OneStop}
@@ -57,15 +57,15 @@ never x s h = let z : ◌≡◌ {A = ℕ} 0 1 = cc in absurd (omega arith)
 
 -- ---- lines of one kind, and the lines after them
 
-module _ {X : Type 0} (read : List ℕ → Result X Misread) (kind : Kind) (told : (line : List ℕ) → Told (form_of kind) line (read line)) (more : List Kind) (s : Stop) where
+module _ {X : Type 0} (read : List ℕ → Result X Misread) (kind : Kind) (shown : (line : List ℕ) → Shown (form_of kind) line (read line)) (more : List Kind) (s : Stop) where
   pub section-stops : (n l : ℕ) (ps : List (List ℕ)) → section_of read n l ps ≡ Err s → StopsAtFirst (replicate n kind ++ more) l ps s
   section-stops zero l ps h = absurd (never _ s h)
   section-stops (suc n) l ps h = by (next_line ps) refl (section-stops n (suc l)) h
     where
       at-line : (r : List ℕ × List (List ℕ)) → next_line ps ≡ Some r → (section_of read n (suc l) r.1 ≡ Err s → StopsAtFirst (replicate n kind ++ more) (suc l) r.1 s)
           → (o : Result X Misread) → read r.0 ≡ o → (t : Result (List X × List (List ℕ)) Stop) → section_of read n (suc l) r.1 ≡ t → in_front l o t ≡ Err s → StopsAtFirst (kind ∷ (replicate n kind ++ more)) l ps s
-      at-line r cut deep (Err p) e t q h = subst (StopsAtFirst (kind ∷ (replicate n kind ++ more)) l ps) (err-is _ s h) (here-wrong kind _ l ps r p cut (subst (Told (form_of kind) r.0) e (told r.0)))
-      at-line r cut deep (Ok x) e (Err z) q h = later kind _ l ps r s cut (subst (Told (form_of kind) r.0) e (told r.0)) (deep (q ∙ ap Err (err-is z s h)))
+      at-line r cut deep (Err p) e t q h = subst (StopsAtFirst (kind ∷ (replicate n kind ++ more)) l ps) (err-is _ s h) (here-wrong kind _ l ps r p cut (subst (Shown (form_of kind) r.0) e (shown r.0)))
+      at-line r cut deep (Ok x) e (Err z) q h = later kind _ l ps r s cut (subst (Shown (form_of kind) r.0) e (shown r.0)) (deep (q ∙ ap Err (err-is z s h)))
       at-line r cut deep (Ok x) e (Ok z) q h = absurd (never _ s h)
 
       by : (o : Option (List ℕ × List (List ℕ))) → next_line ps ≡ o → ((qs : List (List ℕ)) → section_of read n (suc l) qs ≡ Err s → StopsAtFirst (replicate n kind ++ more) (suc l) qs s)
@@ -74,7 +74,7 @@ module _ {X : Type 0} (read : List ℕ → Result X Misread) (kind : Kind) (told
       by (Some r) cut deep h = at-line r cut (deep r.1) (read r.0) refl (section_of read n (suc l) r.1) refl h
 
 -- what lines of one kind leave standing
-module _ {X : Type 0} (read : List ℕ → Result X Misread) (kind : Kind) (told : (line : List ℕ) → Told (form_of kind) line (read line)) (more : List Kind) (P : List Kind → ℕ → List (List ℕ) → Type 0)
+module _ {X : Type 0} (read : List ℕ → Result X Misread) (kind : Kind) (shown : (line : List ℕ) → Shown (form_of kind) line (read line)) (more : List Kind) (P : List Kind → ℕ → List (List ℕ) → Type 0)
     (on : (kinds : List Kind) (l : ℕ) (ps : List (List ℕ)) (r : List ℕ × List (List ℕ)) → next_line ps ≡ Some r → LineOf (form_of kind) r.0 → P kinds (suc l) r.1 → P (kind ∷ kinds) l ps) where
   pub section-passes : (n l : ℕ) (ps : List (List ℕ)) (y : List X × List (List ℕ)) → section_of read n l ps ≡ Ok y → P more (l + n) y.1 → P (replicate n kind ++ more) l ps
   section-passes zero l ps y h t =
@@ -90,7 +90,7 @@ module _ {X : Type 0} (read : List ℕ → Result X Misread) (kind : Kind) (told
       at-line r cut deep (Ok x) e (Ok z) q h =
           let pair : ◌≡◌ {A = List X × List (List ℕ)} (x ∷ z.0, z.1) y = cc in
           let same : l + suc n ≡ suc l + n = omega arith in
-          on _ l ps r cut (subst (Told (form_of kind) r.0) e (told r.0)) (deep z q (subst (λ m. P more m z.1) same (subst (λ y. P more (l + suc n) y.1) (sym pair) t)))
+          on _ l ps r cut (subst (Shown (form_of kind) r.0) e (shown r.0)) (deep z q (subst (λ m. P more m z.1) same (subst (λ y. P more (l + suc n) y.1) (sym pair) t)))
 
       by : (o : Option (List ℕ × List (List ℕ))) → next_line ps ≡ o → ((qs : List (List ℕ)) (z : List X × List (List ℕ)) → section_of read n (suc l) qs ≡ Ok z → P more (suc l + n) z.1 → P (replicate n kind ++ more) (suc l) qs)
           → on_line l o (λ line qs. in_front l (read line) (section_of read n (suc l) qs)) ≡ Ok y → P (kind ∷ (replicate n kind ++ more)) l ps
@@ -98,16 +98,16 @@ module _ {X : Type 0} (read : List ℕ → Result X Misread) (kind : Kind) (told
       by (Some r) cut deep h = at-line r cut (deep r.1) (read r.0) refl (section_of read n (suc l) r.1) refl h
 
 -- they are passed by what stops after them, and by what ends after them
-section-then-stops : {X : Type 0} (read : List ℕ → Result X Misread) (kind : Kind) → ((line : List ℕ) → Told (form_of kind) line (read line)) → (more : List Kind) (s : Stop) (n l : ℕ) (ps : List (List ℕ)) (y : List X × List (List ℕ))
+section-then-stops : {X : Type 0} (read : List ℕ → Result X Misread) (kind : Kind) → ((line : List ℕ) → Shown (form_of kind) line (read line)) → (more : List Kind) (s : Stop) (n l : ℕ) (ps : List (List ℕ)) (y : List X × List (List ℕ))
     → section_of read n l ps ≡ Ok y → StopsAtFirst more (l + n) y.1 s → StopsAtFirst (replicate n kind ++ more) l ps s
-section-then-stops read kind told more s = section-passes read kind told more (λ kinds l ps. StopsAtFirst kinds l ps s) (λ kinds l ps r cut reads t. later kind kinds l ps r s cut reads t)
+section-then-stops read kind shown more s = section-passes read kind shown more (λ kinds l ps. StopsAtFirst kinds l ps s) (λ kinds l ps r cut reads t. later kind kinds l ps r s cut reads t)
 
 line-then-ends : (kind : Kind) (kinds : List Kind) (ps : List (List ℕ)) (r : List ℕ × List (List ℕ)) → next_line ps ≡ Some r → LineOf (form_of kind) r.0 → ToTheEnd kinds r.1 → ToTheEnd (kind ∷ kinds) ps
 line-then-ends kind kinds ps r cut reads all = subst (λ o. IfLine o (λ line qs. LineOf (form_of kind) line × ToTheEnd kinds qs)) (sym cut) (reads, all)
 
-section-then-ends : {X : Type 0} (read : List ℕ → Result X Misread) (kind : Kind) → ((line : List ℕ) → Told (form_of kind) line (read line)) → (more : List Kind) (n l : ℕ) (ps : List (List ℕ)) (y : List X × List (List ℕ))
+section-then-ends : {X : Type 0} (read : List ℕ → Result X Misread) (kind : Kind) → ((line : List ℕ) → Shown (form_of kind) line (read line)) → (more : List Kind) (n l : ℕ) (ps : List (List ℕ)) (y : List X × List (List ℕ))
     → section_of read n l ps ≡ Ok y → ToTheEnd more y.1 → ToTheEnd (replicate n kind ++ more) ps
-section-then-ends read kind told more = section-passes read kind told more (λ kinds l ps. ToTheEnd kinds ps) (λ kinds l ps r cut reads t. line-then-ends kind kinds ps r cut reads t)
+section-then-ends read kind shown more = section-passes read kind shown more (λ kinds l ps. ToTheEnd kinds ps) (λ kinds l ps r cut reads t. line-then-ends kind kinds ps r cut reads t)
 
 -- ---- the lines after the first
 
@@ -146,19 +146,19 @@ module _ (h : PlainHead) (s : Stop) where
     where
       third : (a : List PlainEntry) (b : List Key) (qs : List (List ℕ)) (r : Result (List ℕ × List (List ℕ)) Stop) → section_of balance_of h.posts (2 + h.investees + h.posts) qs ≡ r
           → and_then r (third_of a b) ≡ Err s → StopsAtFirst (replicate h.posts balance ++ []) (2 + h.investees + h.posts) qs s
-      third a b qs (Err z) e k = section-stops balance_of balance balance-told [] s h.posts _ qs (e ∙ ap Err (err-is z s k))
-      third a b qs (Ok y) e k = section-then-stops balance_of balance balance-told [] s h.posts _ qs y e (ended-stops _ y.1 _ s k)
+      third a b qs (Err z) e k = section-stops balance_of balance balance-shown [] s h.posts _ qs (e ∙ ap Err (err-is z s k))
+      third a b qs (Ok y) e k = section-then-stops balance_of balance balance-shown [] s h.posts _ qs y e (ended-stops _ y.1 _ s k)
 
       second : (a : List PlainEntry) (qs : List (List ℕ)) (r : Result (List Key × List (List ℕ)) Stop) → section_of key_of h.posts (2 + h.investees) qs ≡ r
           → and_then r (second_of a) ≡ Err s
           → StopsAtFirst (replicate h.posts key ++ (replicate h.posts balance ++ [])) (2 + h.investees) qs s
-      second a qs (Err z) e k = section-stops key_of key key-told _ s h.posts _ qs (e ∙ ap Err (err-is z s k))
-      second a qs (Ok y) e k = section-then-stops key_of key key-told _ s h.posts _ qs y e (third a y.0 y.1 _ refl k)
+      second a qs (Err z) e k = section-stops key_of key key-shown _ s h.posts _ qs (e ∙ ap Err (err-is z s k))
+      second a qs (Ok y) e k = section-then-stops key_of key key-shown _ s h.posts _ qs y e (third a y.0 y.1 _ refl k)
 
       first : (r : Result (List PlainEntry × List (List ℕ)) Stop) → section_of investee_of h.investees 2 ps ≡ r
           → and_then r first_of ≡ Err s → StopsAtFirst (kinds_with (replicate h.posts balance ++ [])) 2 ps s
-      first (Err z) e k = section-stops investee_of investee investee-told _ s h.investees 2 ps (e ∙ ap Err (err-is z s k))
-      first (Ok y) e k = section-then-stops investee_of investee investee-told _ s h.investees 2 ps y e (second y.0 y.1 _ refl k)
+      first (Err z) e k = section-stops investee_of investee investee-shown _ s h.investees 2 ps (e ∙ ap Err (err-is z s k))
+      first (Ok y) e k = section-then-stops investee_of investee investee-shown _ s h.investees 2 ps y e (second y.0 y.1 _ refl k)
 
 -- all of them read, and nothing follows
 body-ends : (h : PlainHead) (ps : List (List ℕ)) (f : PlainPortfolio) → body_of h ps ≡ Ok f → ToTheEnd (kinds_after h.investees h.posts) ps
@@ -167,9 +167,9 @@ body-ends h ps f k =
     let (y, k₄, k₅) = then_ok (section_of key_of h.posts (2 + h.investees) x.1) _ f k₃ in
     let (z, k₆, k₇) = then_ok (section_of balance_of h.posts (2 + h.investees + h.posts) y.1) _ f k₅ in
     let (last, is) = ended-ok (2 + h.investees + h.posts + h.posts) z.1 (record { guide = h.guide; investees = x.0; posts = postings y.0 z.0 }) f k₇ in
-    let balances = section-then-ends balance_of balance balance-told [] h.posts _ y.1 z k₆ last in
-    section-then-ends investee_of investee investee-told _ h.investees 2 ps x k₂
-    (section-then-ends key_of key key-told _ h.posts _ x.1 y k₄ (subst (λ kinds. ToTheEnd kinds y.1) (append-nil (replicate h.posts balance)) balances))
+    let balances = section-then-ends balance_of balance balance-shown [] h.posts _ y.1 z k₆ last in
+    section-then-ends investee_of investee investee-shown _ h.investees 2 ps x k₂
+    (section-then-ends key_of key key-shown _ h.posts _ x.1 y k₄ (subst (λ kinds. ToTheEnd kinds y.1) (append-nil (replicate h.posts balance)) balances))
 
 -- ---- line 1
 
@@ -197,9 +197,9 @@ not_within n m a b f =
 
 -- ---- the file
 
-abbrev FileTold : List ℕ → Result PlainPortfolio Stop → Type 0
-FileTold bytes (Ok f) = WithinLimits bytes × AllLaidOut bytes
-FileTold bytes (Err s) = Refused bytes s
+abbrev FileShown : List ℕ → Result PlainPortfolio Stop → Type 0
+FileShown bytes (Ok f) = WithinLimits bytes × AllLaidOut bytes
+FileShown bytes (Err s) = Refused bytes s
 
 module _ (bytes : List ℕ) (short : length bytes ≤ most_bytes) where
   abbrev ps : List (List ℕ)
@@ -218,60 +218,60 @@ module _ (bytes : List ℕ) (short : length bytes ≤ most_bytes) where
         some_guide = λ k. subst (λ n. is_some (guide_numbered n) ≡ true) ((alike bytes h k).guide) guide;
       }
 
-  lines-told : (h : FirstLine bytes) (g : Guide) → WithinLimits bytes → (x : Result PlainPortfolio Stop) → body_of (record { investees = h.investees; posts = h.posts; guide = g }) h.after ≡ x → FileTold bytes x
-  lines-told h g fits (Ok f) is = (fits, (h, body-ends (record { investees = h.investees; posts = h.posts; guide = g }) h.after f is))
-  lines-told h g fits (Err s) is = at_later_line s h fits (body-stops (record { investees = h.investees; posts = h.posts; guide = g }) s h.after is)
+  lines-shown : (h : FirstLine bytes) (g : Guide) → WithinLimits bytes → (x : Result PlainPortfolio Stop) → body_of (record { investees = h.investees; posts = h.posts; guide = g }) h.after ≡ x → FileShown bytes x
+  lines-shown h g fits (Ok f) is = (fits, (h, body-ends (record { investees = h.investees; posts = h.posts; guide = g }) h.after f is))
+  lines-shown h g fits (Err s) is = at_later_line s h fits (body-stops (record { investees = h.investees; posts = h.posts; guide = g }) s h.after is)
 
-  numbers-told : (h : FirstLine bytes) (o : Option Guide) → guide_numbered h.guide ≡ o → FileTold bytes (and_then (head_by h.investees h.posts o) (λ p. body_of p h.after))
-  numbers-told h None g = beyond (λ w. no-guide _ g (w.some_guide h))
-  numbers-told h (Some guide) g =
+  numbers-shown : (h : FirstLine bytes) (o : Option Guide) → guide_numbered h.guide ≡ o → FileShown bytes (and_then (head_by h.investees h.posts o) (λ p. body_of p h.after))
+  numbers-shown h None g = beyond (λ w. no-guide _ g (w.some_guide h))
+  numbers-shown h (Some guide) g =
       ⊎_elim
       (λ t.
       let (a, b) = and_parts (leb h.investees most_investees) (leb h.posts most_posts) t in
-      subst (λ r. FileTold bytes (and_then r (λ p. body_of p h.after))) (sym (cond-true (within_limits h.investees h.posts) _ _ t))
-      (lines-told h guide (within h (leb-true h.investees most_investees a) (leb-true h.posts most_posts b) (ap is_some g)) _ refl))
+      subst (λ r. FileShown bytes (and_then r (λ p. body_of p h.after))) (sym (cond-true (within_limits h.investees h.posts) _ _ t))
+      (lines-shown h guide (within h (leb-true h.investees most_investees a) (leb-true h.posts most_posts b) (ap is_some g)) _ refl))
       (λ f.
-      subst (λ r. FileTold bytes (and_then r (λ p. body_of p h.after))) (sym (cond-false (within_limits h.investees h.posts) _ _ f))
+      subst (λ r. FileShown bytes (and_then r (λ p. body_of p h.after))) (sym (cond-false (within_limits h.investees h.posts) _ _ f))
       (beyond (λ w. not_within h.investees h.posts (w.few_investees h) (w.few_posts h) f)))
       (cases_Bool (within_limits h.investees h.posts))
 
-  line-told : (r : List ℕ × List (List ℕ)) → next_line ps ≡ Some r → (x : Result (List ℕ) Misread) → number_line numbers_of_first_line r.0 ≡ x → FileTold bytes (and_then (head_from x) (λ p. body_of p r.1))
-  line-told r cut (Err e) is =
+  line-shown : (r : List ℕ × List (List ℕ)) → next_line ps ≡ Some r → (x : Result (List ℕ) Misread) → number_line numbers_of_first_line r.0 ≡ x → FileShown bytes (and_then (head_from x) (λ p. body_of p r.1))
+  line-shown r cut (Err e) is =
       wrong-first (fault FieldNotAsLaidOut (place_of e) 0)
-      (subst (λ o. MissingOrWrong head o (fault FieldNotAsLaidOut (place_of e) 0)) (sym cut) (e, subst (Told (FieldsOfNumbers numbers_of_first_line) r.0) is (row-told numbers_of_first_line r.0), refl))
-  line-told r cut (Ok ns) is = numbers-told (first-line bytes r cut ns is) (guide_numbered (number_at guide_place ns)) refl
+      (subst (λ o. MissingOrWrong head o (fault FieldNotAsLaidOut (place_of e) 0)) (sym cut) (e, subst (Shown (FieldsOfNumbers numbers_of_first_line) r.0) is (row-shown numbers_of_first_line r.0), refl))
+  line-shown r cut (Ok ns) is = numbers-shown (first-line bytes r cut ns is) (guide_numbered (number_at guide_place ns)) refl
 
-  file-told : (o : Option (List ℕ × List (List ℕ))) → next_line ps ≡ o → FileTold bytes (on_line 1 o (λ line qs. and_then (head_of line) (λ p. body_of p qs)))
-  file-told None cut = wrong-first (fault LineMissing 0 0) (subst (λ o. MissingOrWrong head o (fault LineMissing 0 0)) (sym cut) refl)
-  file-told (Some r) cut = line-told r cut (number_line numbers_of_first_line r.0) refl
+  file-shown : (o : Option (List ℕ × List (List ℕ))) → next_line ps ≡ o → FileShown bytes (on_line 1 o (λ line qs. and_then (head_of line) (λ p. body_of p qs)))
+  file-shown None cut = wrong-first (fault LineMissing 0 0) (subst (λ o. MissingOrWrong head o (fault LineMissing 0 0)) (sym cut) refl)
+  file-shown (Some r) cut = line-shown r cut (number_line numbers_of_first_line r.0) refl
 
-layout-told : (bytes : List ℕ) → FileTold bytes (layout_of bytes)
-layout-told bytes =
+layout-shown : (bytes : List ℕ) → FileShown bytes (layout_of bytes)
+layout-shown bytes =
     ⊎_elim
-    (λ over. subst (FileTold bytes) (sym (cond-true (ltb most_bytes (length bytes)) _ _ (lt-ltb most_bytes (length bytes) over))) (beyond (λ w. omega (arith, w.short, over))))
-    (λ fits. subst (FileTold bytes) (sym (cond-false (ltb most_bytes (length bytes)) _ _ (le-ltb most_bytes (length bytes) fits))) (file-told bytes fits (next_line (pieces 10 bytes)) refl))
+    (λ over. subst (FileShown bytes) (sym (cond-true (ltb most_bytes (length bytes)) _ _ (lt-ltb most_bytes (length bytes) over))) (beyond (λ w. omega (arith, w.short, over))))
+    (λ fits. subst (FileShown bytes) (sym (cond-false (ltb most_bytes (length bytes)) _ _ (le-ltb most_bytes (length bytes) fits))) (file-shown bytes fits (next_line (pieces 10 bytes)) refl))
     (cases_lt most_bytes (length bytes))
 
 -- ---- what that says of reading
 
 -- a refusal is the only one, and bytes that are laid out have none
-the-refusal : (bytes : List ℕ) (r : Result PlainPortfolio Stop) (s : Stop) → FileTold bytes r → Refused bytes s → r ≡ Err s
-the-refusal bytes (Ok f) s told refused = absurd (no-refusal bytes s told.0 told.1 refused)
-the-refusal bytes (Err t) s told refused = ap Err (one-refusal bytes t s told refused)
+the-refusal : (bytes : List ℕ) (r : Result PlainPortfolio Stop) (s : Stop) → FileShown bytes r → Refused bytes s → r ≡ Err s
+the-refusal bytes (Ok f) s shown refused = absurd (no-refusal bytes s shown.0 shown.1 refused)
+the-refusal bytes (Err t) s shown refused = ap Err (one-refusal bytes t s shown refused)
 
 pub refuses-rightly : (bytes : List ℕ) (r : Result PlainPortfolio Stop) → r ≡ layout_of bytes → RefusesRightly bytes r
 refuses-rightly bytes r is s =
-    let told : FileTold bytes r = subst (FileTold bytes) (sym is) (layout-told bytes) in
-    (λ err. subst (FileTold bytes) err told, λ refused. the-refusal bytes r s told refused)
+    let shown : FileShown bytes r = subst (FileShown bytes) (sym is) (layout-shown bytes) in
+    (λ err. subst (FileShown bytes) err shown, λ refused. the-refusal bytes r s shown refused)
 
 pub has-one-stop : (bytes : List ℕ) → OneStop bytes
 has-one-stop bytes =
     record {
       at_most_one = one-refusal bytes;
-      none_of_a_text = λ f s text refused. never f s (sym (text-gives bytes f text) ∙ the-refusal bytes (layout_of bytes) s (layout-told bytes) refused);
-      one_of_others = λ other. by other (layout_of bytes) refl (layout-told bytes);
+      none_of_a_text = λ f s text refused. never f s (sym (text-gives bytes f text) ∙ the-refusal bytes (layout_of bytes) s (layout-shown bytes) refused);
+      one_of_others = λ other. by other (layout_of bytes) refl (layout-shown bytes);
     }
   where
-    by : ((f : PlainPortfolio) → IsTextOf f bytes → ⊥) → (r : Result PlainPortfolio Stop) → layout_of bytes ≡ r → FileTold bytes r → (s : Stop) × Refused bytes s
-    by other (Ok f) is told = absurd (other f (text-from bytes f is))
-    by other (Err s) is told = (s, told)
+    by : ((f : PlainPortfolio) → IsTextOf f bytes → ⊥) → (r : Result PlainPortfolio Stop) → layout_of bytes ≡ r → FileShown bytes r → (s : Stop) × Refused bytes s
+    by other (Ok f) is shown = absurd (other f (text-from bytes f is))
+    by other (Err s) is shown = (s, shown)

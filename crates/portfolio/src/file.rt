@@ -9,14 +9,14 @@ use entries::investee::{InvesteeEntry, PostEntry};
 use portfolio_lines::investee::read_investee;
 use portfolio_lines::posts::{Key, read_balance, read_key};
 
-// The investees of a file that are still to read.
+/// The investees of a file that are still to read.
 #[derive(Clone, Copy)]
 pub struct Investees<'a> {
     pub(crate) lines: Section<'a>,
 }
 
 impl Investees<'_> {
-    // How many are left.
+    /// How many are left.
     pub fn len(&self) -> usize
         ensures { result ≡ investee_count self.now }
     {
@@ -40,7 +40,7 @@ impl Iterator for Investees<'_> {
     }
 }
 
-// The posts of a file that are still to read: their keys, and their balances further down.
+/// The posts of a file that are still to read: their keys, and their balances further down.
 #[derive(Clone, Copy)]
 pub struct Posts<'a> {
     pub(crate) keys: Section<'a>,
@@ -48,7 +48,7 @@ pub struct Posts<'a> {
 }
 
 impl Posts<'_> {
-    // How many are left.
+    /// How many are left.
     pub fn len(&self) -> usize
         ensures { result ≡ post_count self.now }
     {
@@ -86,7 +86,7 @@ impl Iterator for Posts<'_> {
     }
 }
 
-// A file that is laid out.
+/// A file that is laid out.
 #[derive(Clone, Copy)]
 pub struct Portfolio<'a> {
     pub(crate) guide: Guide,
@@ -99,12 +99,14 @@ pub struct Portfolio<'a> {
 impl<'a> Portfolio<'a> {
     ghost use Rattle.portfolio.specs.Seen.{plain_portfolio};
 
+    /// The guide that line 1 names.
     pub fn guide(&self) -> Guide
         ensures { result ≡ (plain_portfolio self.now).guide }
     {
         self.guide
     }
 
+    /// All its investees, in their order.
     pub fn investees(&self) -> Investees<'a>
         ensures left { investees_left result ≡ (plain_portfolio self.now).investees }
         ensures count { investee_count result ≡ investee_count self.now.investees }
@@ -112,6 +114,7 @@ impl<'a> Portfolio<'a> {
         self.investees
     }
 
+    /// All its posts, in their order.
     pub fn posts(&self) -> Posts<'a>
         ensures left { posts_left result ≡ (plain_portfolio self.now).posts }
         ensures count { post_count result ≡ post_count self.now.posts }

@@ -16,7 +16,7 @@ use lines::pieces::Pieces;
 use portfolio_lines::investee::read_investee;
 use portfolio_lines::posts::{read_balance, read_key};
 
-// The most bytes of a file.
+/// The most bytes of a file.
 pub const MOST_BYTES: usize = 65_536;
 
 // The lines after the first.

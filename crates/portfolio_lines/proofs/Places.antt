@@ -36,20 +36,20 @@ module _ (Form : List (List ℕ) → Type 0) (line : List ℕ) where
   no-way (Field (suc i)) l w = no-place Form (pieces 32 line) i l.fields w.1
 
   -- what a reading of a line shows of it
-  abbrev pub Told : {X : Type 0} → Result X Misread → Type 0
-  Told (Ok x) = LineOf Form line
-  Told (Err e) = WrongLine Form line e
+  abbrev pub Shown : {X : Type 0} → Result X Misread → Type 0
+  Shown (Ok x) = LineOf Form line
+  Shown (Err e) = WrongLine Form line e
 
-  the-way : {X : Type 0} (r : Result X Misread) (e : Misread) → Told r → WrongLine Form line e → r ≡ Err e
-  the-way (Ok x) e told w = absurd (no-way e told w)
-  the-way (Err d) e told w = ap Err (one-way d e told w)
+  the-way : {X : Type 0} (r : Result X Misread) (e : Misread) → Shown r → WrongLine Form line e → r ≡ Err e
+  the-way (Ok x) e shown w = absurd (no-way e shown w)
+  the-way (Err d) e shown w = ap Err (one-way d e shown w)
 
-  pub refuses : {X : Type 0} (r : Result X Misread) → Told r → RefusesWrongLines Form line r
-  refuses r told e = (λ err. subst Told err told, λ w. the-way r e told w)
+  pub refuses : {X : Type 0} (r : Result X Misread) → Shown r → RefusesWrongLines Form line r
+  refuses r shown e = (λ err. subst Shown err shown, λ w. the-way r e shown w)
 
-  pub told-then : {X Y : Type 0} (r : Result X Misread) (f : X → Y) → Told r → Told (and_then r (λ x. Ok (f x)))
-  told-then (Ok x) f told = told
-  told-then (Err e) f told = told
+  pub shown-then : {X Y : Type 0} (r : Result X Misread) (f : X → Y) → Shown r → Shown (and_then r (λ x. Ok (f x)))
+  shown-then (Ok x) f shown = shown
+  shown-then (Err e) f shown = shown
 
 -- ---- a form whose lines are what a reading reads to the end
 
@@ -93,23 +93,23 @@ module _ {X : Type 0} (read : FieldsLeft → Reading X) (Form : List (List ℕ) 
     at_place : (e : Misread) (i p : ℕ) → e ≡ Field p → p ≡ suc i → WrongAt Form fs i → WrongLine Form line e
     at_place e i p is place w = subst (WrongLine Form line) (sym (is ∙ ap Field place)) (fits, w)
 
-    ended-told : (x : X) (g : FieldsLeft) (left : List (List ℕ)) → g.left ≡ left → read (from_place 1 fs) ≡ Ok (x, g) → Told Form line (none_at x g.place left)
-    ended-told x g [] left reads = record { short = fits; fields = law.from fs x g reads left }
-    ended-told x g (f ∷ gs) left reads =
+    ended-shown : (x : X) (g : FieldsLeft) (left : List (List ℕ)) → g.left ≡ left → read (from_place 1 fs) ≡ Ok (x, g) → Shown Form line (none_at x g.place left)
+    ended-shown x g [] left reads = record { short = fits; fields = law.from fs x g reads left }
+    ended-shown x g (f ∷ gs) left reads =
         let s = law.by_step.passes 1 fs x g reads in
         at_place (Field g.place) (length s.front) g.place refl (omega (arith, s.place_is)) (surplus fs x g f gs left reads s)
 
-    fields-told : (r : Reading X) → read (from_place 1 fs) ≡ r → Told Form line (and_then r (λ r. none_left r.0 r.1))
-    fields-told (Ok r) is = ended-told r.0 r.1 r.1.left refl is
-    fields-told (Err e) is =
+    fields-shown : (r : Reading X) → read (from_place 1 fs) ≡ r → Shown Form line (and_then r (λ r. none_left r.0 r.1))
+    fields-shown (Ok r) is = ended-shown r.0 r.1 r.1.left refl is
+    fields-shown (Err e) is =
         let s = law.by_step.stops 1 fs e is in
         at_place e (length s.before) (1 + length s.before) s.place_is (omega arith) (stopped fs e is s)
 
-  pub line-told : (line : List ℕ) → Told Form line (whole_line read line)
-  line-told line =
+  pub line-shown : (line : List ℕ) → Shown Form line (whole_line read line)
+  line-shown line =
       ⊎_elim
-      (λ over. subst (Told Form line) (sym (cond-true (ltb 511 (length line)) _ _ (lt-ltb 511 (length line) over))) over)
-      (λ fits. subst (Told Form line) (sym (cond-false (ltb 511 (length line)) _ _ (le-ltb 511 (length line) fits))) (fields-told line fits (read (fields_of line)) refl))
+      (λ over. subst (Shown Form line) (sym (cond-true (ltb 511 (length line)) _ _ (lt-ltb 511 (length line) over))) over)
+      (λ fits. subst (Shown Form line) (sym (cond-false (ltb 511 (length line)) _ _ (le-ltb 511 (length line) fits))) (fields-shown line fits (read (fields_of line)) refl))
       (cases_lt 511 (length line))
 
 -- ---- numbers
@@ -125,14 +125,14 @@ numbers-form k = record { by_step = numbers-step k; from = from; gives = gives }
     gives : (fs : List (List ℕ)) → FieldsOfNumbers k fs → (ns : List ℕ) × (q : ℕ) × (numbers_in k (from_place 1 fs) ≡ Ok (ns, from_place q []))
     gives fs w = (w.numbers, 1 + k, numbers-gives k 1 fs w.numbers [] w.count (record { small = w.digits; spelled = w.fields_are ∙ sym (append-nil (map decimal w.numbers)) }))
 
-pub row-told : (k : ℕ) (line : List ℕ) → Told (FieldsOfNumbers k) line (number_line k line)
-row-told k line = line-told (numbers_in k) (FieldsOfNumbers k) (numbers-form k) line
+pub row-shown : (k : ℕ) (line : List ℕ) → Shown (FieldsOfNumbers k) line (number_line k line)
+row-shown k line = line-shown (numbers_in k) (FieldsOfNumbers k) (numbers-form k) line
 
-pub key-told : (line : List ℕ) → Told (FieldsOfNumbers numbers_of_key) line (key_of line)
-key-told line = told-then (FieldsOfNumbers numbers_of_key) line (number_line numbers_of_key line) key_from (row-told numbers_of_key line)
+pub key-shown : (line : List ℕ) → Shown (FieldsOfNumbers numbers_of_key) line (key_of line)
+key-shown line = shown-then (FieldsOfNumbers numbers_of_key) line (number_line numbers_of_key line) key_from (row-shown numbers_of_key line)
 
-pub balance-told : (line : List ℕ) → Told (FieldsOfNumbers numbers_of_balance) line (balance_of line)
-balance-told line = told-then (FieldsOfNumbers numbers_of_balance) line (number_line numbers_of_balance line) _ (row-told numbers_of_balance line)
+pub balance-shown : (line : List ℕ) → Shown (FieldsOfNumbers numbers_of_balance) line (balance_of line)
+balance-shown line = shown-then (FieldsOfNumbers numbers_of_balance) line (number_line numbers_of_balance line) _ (row-shown numbers_of_balance line)
 
 -- ---- an investee
 
@@ -144,23 +144,23 @@ entry-form =
       gives = λ fs w. let (q, reads) = entry-gives fs w.entry w.fields_are w.digits in (w.entry, q, reads);
     }
 
-pub investee-told : (line : List ℕ) → Told FieldsOfInvestee line (investee_of line)
-investee-told line = line-told entry_in FieldsOfInvestee entry-form line
+pub investee-shown : (line : List ℕ) → Shown FieldsOfInvestee line (investee_of line)
+investee-shown line = line-shown entry_in FieldsOfInvestee entry-form line
 
 -- ---- what the functions answer
 
 pub row-refuses : (k : ℕ) (line : List ℕ) (r : Result (List ℕ) Misread) → r ≡ number_line k line → RefusesWrongLines (FieldsOfNumbers k) line r
-row-refuses k line r is = refuses (FieldsOfNumbers k) line r (subst (Told (FieldsOfNumbers k) line) (sym is) (row-told k line))
+row-refuses k line r is = refuses (FieldsOfNumbers k) line r (subst (Shown (FieldsOfNumbers k) line) (sym is) (row-shown k line))
 
 pub key-refuses : (line : List ℕ) (r : Result Key Misread) → r ≡ key_of line → RefusesWrongLines (FieldsOfNumbers numbers_of_key) line r
-key-refuses line r is = refuses (FieldsOfNumbers numbers_of_key) line r (subst (Told (FieldsOfNumbers numbers_of_key) line) (sym is) (key-told line))
+key-refuses line r is = refuses (FieldsOfNumbers numbers_of_key) line r (subst (Shown (FieldsOfNumbers numbers_of_key) line) (sym is) (key-shown line))
 
 pub balance-refuses : (line : List ℕ) (r : Result ℕ Misread) → r ≡ balance_of line → RefusesWrongLines (FieldsOfNumbers numbers_of_balance) line r
-balance-refuses line r is = refuses (FieldsOfNumbers numbers_of_balance) line r (subst (Told (FieldsOfNumbers numbers_of_balance) line) (sym is) (balance-told line))
+balance-refuses line r is = refuses (FieldsOfNumbers numbers_of_balance) line r (subst (Shown (FieldsOfNumbers numbers_of_balance) line) (sym is) (balance-shown line))
 
-held-told : (line : List ℕ) (r : Result PlainEntry Misread) → Told FieldsOfInvestee line r → Told FieldsOfInvestee line (held_line r)
-held-told line (Ok e) told = told
-held-told line (Err e) told = told
+held-shown : (line : List ℕ) (r : Result PlainEntry Misread) → Shown FieldsOfInvestee line r → Shown FieldsOfInvestee line (held_line r)
+held-shown line (Ok e) shown = shown
+held-shown line (Err e) shown = shown
 
 pub investee-refuses : (line : List ℕ) (r : Result InvesteeEntry Misread) → r ≡ held_line (investee_of line) → RefusesWrongLines FieldsOfInvestee line r
-investee-refuses line r is = refuses FieldsOfInvestee line r (subst (Told FieldsOfInvestee line) (sym is) (held-told line (investee_of line) (investee-told line)))
+investee-refuses line r is = refuses FieldsOfInvestee line r (subst (Shown FieldsOfInvestee line) (sym is) (held-shown line (investee_of line) (investee-shown line)))

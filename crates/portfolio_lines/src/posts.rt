@@ -15,7 +15,8 @@ pub const KEY_NUMBERS: usize = 3;
 /// How many numbers the line of a balance has.
 pub const BALANCE_NUMBERS: usize = 1;
 
-/// The branch, the investee's id and the month of a post. Each is below 10^13, and else as the line says it: a book tries them.
+/// The branch, the investee's id and the month of a post: any numbers of at most 13 digits. A book tries whether they
+/// are in range.
 #[derive(Clone, Copy, Debug, PartialEq, Eq)]
 pub struct Key {
     pub branch: u64,

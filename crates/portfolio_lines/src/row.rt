@@ -22,7 +22,7 @@ fn misread(error: LineError, count: usize) -> Misread
     }
 }
 
-// The K numbers of a line, which is given without its line feed.
+/// The K numbers of a line, which is given without its line feed.
 pub fn read_row<const K: usize>(line: &[u8]) -> Result<[u64; K], Misread>
     ensures value { result ≡ number_line K line.now }
     ensures lines { 0 < K → ReadsRows K line.now result }
