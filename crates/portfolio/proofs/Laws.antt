@@ -19,7 +19,8 @@ use Rattle.portfolio_lines.specs.declared.posts.Key.{Key}
 use Rattle.portfolio_lines.proofs.Investees.{investee-free}
 use Rattle.portfolio_lines.proofs.Spelled.{all_append}
 use Rattle.portfolio_lines.proofs.Texts.{row-free}
-use Rattle.portfolio.specs.Layout.{PlainHead, beyond_limits, next_line, on_line, section_of, ended, head_of, postings, body_of, layout_of}
+use Rattle.portfolio.specs.Files.{beyond_limits, next_line}
+use Rattle.portfolio.specs.Layout.{PlainHead, on_line, section_of, ended, head_of, postings, body_of, layout_of}
 use Rattle.portfolio.specs.Text.{head_line, key_line, balance_line, lines_of, fed, text, InvesteeDigits, PostDigits, IsTextOf, AcceptsTexts}
 use Rattle.portfolio.proofs.Sections.{next-is, Section, section-read, section-gives, EntryFact, KeyFact, BalanceFact, key_written, balance_written, entry-law, entry-back, key-law, key_back, balance-law, balance-back, HeadLine, head-line, head-reads}
 

@@ -14,7 +14,7 @@ use Rattle.portfolio_lines.specs.Places.{LineOf, WrongLine}
 use Rattle.portfolio_lines.specs.declared.misread.Misread.{Misread}
 use Rattle.portfolio_lines.proofs.Places.{Shown, one-way, no-way, row-shown}
 use Rattle.portfolio_lines.proofs.Texts.{row_reads}
-use Rattle.portfolio.specs.Layout.{next_line}
+use Rattle.portfolio.specs.Files.{next_line}
 use Rattle.portfolio.specs.Refused.{Kind, head, form_of, kinds_after, IfLine, AsLaidOut, MissingOrWrong, NotAsLaidOut, StopsAtFirst, FirstLine, WithinLimits, Refused, beyond, at_first_line, at_later_line}
 use Rattle.portfolio.proofs.Sections.{next-is}
 

@@ -21,7 +21,8 @@ use Rattle.portfolio_lines.specs.declared.misread.Misread.{Misread}
 use Rattle.portfolio_lines.specs.declared.posts.Key.{Key}
 use Rattle.portfolio_lines.proofs.Places.{Shown, row-shown, key-shown, balance-shown, investee-shown}
 use Rattle.portfolio_lines.proofs.Texts.{row_line, at_all}
-use Rattle.portfolio.specs.Layout.{most_bytes, most_investees, most_posts, PlainHead, missing, not_laid_out, next_line, on_line, in_front, section_of, ended, postings, within_limits, head_by, head_from, head_of, body_of, layout_of}
+use Rattle.portfolio.specs.Files.{most_bytes, most_investees, most_posts, missing, not_laid_out, next_line}
+use Rattle.portfolio.specs.Layout.{PlainHead, on_line, in_front, section_of, ended, postings, within_limits, head_by, head_from, head_of, body_of, layout_of}
 use Rattle.portfolio.specs.Refused.{Kind, head, investee, key, balance, form_of, kinds_after, IfLine, AsLaidOut, MissingOrWrong, NotAsLaidOut, StopsAtFirst, FirstLine, WithinLimits, Refused, beyond, at_first_line, at_later_line, RefusesRightly, OneStop}
 use Rattle.portfolio.specs.Text.{IsTextOf}
 use Rattle.portfolio.proofs.Laws.{then_ok, ended-ok, text-from, text-gives}

@@ -15,7 +15,8 @@ use Rattle.portfolio_lines.specs.declared.misread.Misread.{Misread}
 use Rattle.portfolio_lines.specs.declared.posts.Key.{Key}
 use Rattle.portfolio_lines.proofs.Investees.{investee-line, investee-reads}
 use Rattle.portfolio_lines.proofs.Texts.{row_line, row_reads, key-line, key_reads, balance-line, balance-reads, at_all}
-use Rattle.portfolio.specs.Layout.{most_investees, most_posts, PlainHead, beyond_limits, next_line, on_line, in_front, section_of, within_limits, head_by, head_from, head_of}
+use Rattle.portfolio.specs.Files.{most_investees, most_posts, beyond_limits, next_line}
+use Rattle.portfolio.specs.Layout.{PlainHead, on_line, in_front, section_of, within_limits, head_by, head_from, head_of}
 use Rattle.portfolio.specs.Text.{InvesteeDigits}
 
 pub next-is : (ps : List (List ℕ)) (r : List ℕ × List (List ℕ)) → next_line ps ≡ Some r → ps ≡ r.0 ∷ r.1

@@ -10,7 +10,8 @@ use Rattle.portfolio_lines.specs.Lines.{investee_of, held_line}
 use Rattle.portfolio_lines.specs.declared.misread.Misread.{Misread}
 use Rattle.portfolio_lines.specs.declared.posts.Key.{Key}
 use Rattle.portfolio.specs.Cursors.{unless_wrong, all_in, NextAs, NextOf, NextRead, NextEntry, NextPost}
-use Rattle.portfolio.specs.Layout.{next_line, postings}
+use Rattle.portfolio.specs.Files.{next_line}
+use Rattle.portfolio.specs.Layout.{postings}
 
 -- ---- lines
 

@@ -13,7 +13,8 @@ use Rattle.portfolio_lines.specs.Misreads.{place_of}
 use Rattle.portfolio_lines.specs.declared.misread.Misread.{Misread}
 use Rattle.portfolio_lines.specs.declared.posts.Key.{Key}
 use Rattle.portfolio.specs.Cursors.{with_line, lines_in, unless_wrong, all_in}
-use Rattle.portfolio.specs.Layout.{PlainHead, missing, not_laid_out, next_line, on_line, in_front, section_of, ended, postings, body_of, gone}
+use Rattle.portfolio.specs.Files.{missing, not_laid_out, next_line}
+use Rattle.portfolio.specs.Layout.{PlainHead, on_line, in_front, section_of, ended, postings, body_of, gone}
 use Rattle.portfolio.specs.Rows.{passes, after, passed}
 
 -- ---- one line

@@ -9,7 +9,8 @@ use Rattle.lines.specs.Fields.{pieces_left}
 use Rattle.portfolio_lines.specs.Lines.{investee_of, key_of, balance_of}
 use Rattle.portfolio_lines.specs.declared.misread.Misread.{Misread}
 use Rattle.portfolio_lines.specs.declared.posts.Key.{Key}
-use Rattle.portfolio.specs.Layout.{next_line, postings}
+use Rattle.portfolio.specs.Files.{next_line}
+use Rattle.portfolio.specs.Layout.{postings}
 use Rattle.portfolio.specs.declared.file.Investees.{Investees}
 use Rattle.portfolio.specs.declared.file.Posts.{Posts}
 use Rattle.portfolio.specs.declared.section.Section.{Section}

@@ -1,17 +1,11 @@
 -- Which bytes are laid out as a portfolio, and where the others stop: the whole layout, from the top.
---   piece    what stands between two line feeds
---   line     a piece that a line feed ends
---   stop     the number of a line, from 1, and the fault found there
 use Rattle.std.specs.Prelude.{ℕ, zero, suc, ◌+◌, Bool, cond, ◌&&◌, List, [], ◌∷◌, length, Some, None, Ok, Err, Option, Result, nat_le, nat_lt}
 use Rattle.std.specs.Borrow.{Bor}
 use Rattle.entries.specs.Entries.{PlainPortfolio}
 use Rattle.entries.specs.Guides.{guide_numbered}
-use Rattle.entries.specs.Stops.{stop_at}
 use Rattle.entries.specs.declared.guide.Guide.{Guide}
 use Rattle.entries.specs.declared.investee.PostEntry.{PostEntry}
 use Rattle.entries.specs.declared.stop.Stop.{Stop}
-use Rattle.faults.specs.Refusals.{fault}
-use Rattle.faults.specs.declared.Refusal.TheVariants.{FieldNotAsLaidOut, FileBeyondLimits, LineMissing}
 use Rattle.lines.specs.Fields.{pieces}
 use Rattle.portfolio_lines.specs.Counted.{and_then}
 use Rattle.portfolio_lines.specs.Lines.{number_line, investee_of, key_of, balance_of}
@@ -19,27 +13,9 @@ use Rattle.portfolio_lines.specs.Misreads.{place_of}
 use Rattle.portfolio_lines.specs.Numbers.{number_at, numbers_of_first_line, investees_place, posts_place, guide_place}
 use Rattle.portfolio_lines.specs.declared.misread.Misread.{Misread}
 use Rattle.portfolio_lines.specs.declared.posts.Key.{Key}
-
--- ---- stops
-
--- a line is missing or not ended, or bytes stand where none may
-abbrev pub missing : ℕ → Stop
-missing line = stop_at line (fault LineMissing 0 0)
-
-abbrev pub not_laid_out : (line place : ℕ) → Stop
-not_laid_out line place = stop_at line (fault FieldNotAsLaidOut place 0)
-
--- the file or its first line is beyond the limits
-abbrev pub beyond_limits : Stop
-beyond_limits = stop_at 1 (fault FileBeyondLimits 0 0)
+use Rattle.portfolio.specs.Files.{missing, not_laid_out, beyond_limits, next_line, most_investees, most_posts, most_bytes}
 
 -- ---- lines
-
--- the first line, and the pieces after it
-abbrev pub next_line : List (List ℕ) → Option (List ℕ × List (List ℕ))
-next_line [] = None
-next_line (p ∷ []) = None
-next_line (p ∷ q ∷ ps) = Some (p, q ∷ ps)
 
 -- what line l reads as, unless it is missing
 abbrev pub on_line : {X : Type 0} → ℕ → Option (List ℕ × List (List ℕ)) → (List ℕ → List (List ℕ) → Result X Stop) → Result X Stop
@@ -65,16 +41,6 @@ ended l ((b ∷ bs) ∷ []) x = Err (missing l)
 ended l (p ∷ q ∷ ps) x = Err (missing l)
 
 -- ---- the file
-
--- the most investees, posts and bytes of a file
-abbrev pub most_investees : ℕ
-most_investees = 200
-
-abbrev pub most_posts : ℕ
-most_posts = 1000
-
-abbrev pub most_bytes : ℕ
-most_bytes = 65536
 
 -- how many lines of each kind follow the first, and the guide
 pub record PlainHead : Type 0 where

@@ -1,4 +1,5 @@
 pub mod Cursors
+pub mod Files
 pub mod Layout
 pub mod Refused
 pub mod Rows

@@ -1,7 +1,6 @@
 -- Why bytes are refused: the file is beyond its limits, or a line is the first that is not as laid out.
---   piece   what stands between two line feeds (10)
---   line    a piece that a line feed ends
---   stop    the number of a line, from 1, and the fault found there
+--   pieces   what stands between two line feeds (10); those that a line feed ends are lines
+--   ps, qs   the pieces that are left from some line on
 use Rattle.std.specs.Prelude.{◌≡◌, ℕ, ◌+◌, ◌≤◌, IsSome, List, [], ◌∷◌, ◌++◌, length, take, drop, replicate, Some, None, Err, Option, Result}
 use Rattle.entries.specs.Entries.{PlainPortfolio}
 use Rattle.entries.specs.Guides.{guide_numbered}
@@ -17,7 +16,7 @@ use Rattle.portfolio_lines.specs.Misreads.{place_of}
 use Rattle.portfolio_lines.specs.Numbers.{numbers_of_first_line, numbers_of_key, numbers_of_balance}
 use Rattle.portfolio_lines.specs.Places.{FieldsOfInvestee, LineOf, WrongLine}
 use Rattle.portfolio_lines.specs.declared.misread.Misread.{Misread}
-use Rattle.portfolio.specs.Layout.{beyond_limits, most_bytes, most_investees, most_posts, next_line}
+use Rattle.portfolio.specs.Files.{beyond_limits, most_bytes, most_investees, most_posts, next_line}
 use Rattle.portfolio.specs.Text.{IsTextOf}
 
 -- ---- the kinds of lines

@@ -7,7 +7,7 @@ use Rattle.entries.specs.declared.investee.PostEntry.{PostEntry}
 use Rattle.entries.specs.declared.stop.Stop.{Stop}
 use Rattle.lines.specs.Render.{printed}
 use Rattle.portfolio_lines.specs.Text.{ThirteenDigits, head_numbers, method_numbers, investee_line}
-use Rattle.portfolio.specs.Layout.{most_bytes, most_investees, most_posts}
+use Rattle.portfolio.specs.Files.{most_bytes, most_investees, most_posts}
 
 -- line 1: the number of investees, the number of posts, the guide's number
 abbrev pub head_line : PlainPortfolio → List ℕ

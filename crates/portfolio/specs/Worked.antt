@@ -2,7 +2,7 @@
 use Rattle.std.specs.Prelude.{ℕ, List, [], ◌∷◌, ◌++◌, codes}
 use Rattle.std.specs.List.{flat_map}
 use Rattle.entries.specs.declared.stop.Stop.{Stop}
-use Rattle.portfolio.specs.Layout.{missing, not_laid_out, beyond_limits}
+use Rattle.portfolio.specs.Files.{missing, not_laid_out, beyond_limits}
 use Rattle.portfolio.specs.Refused.{Refused}
 use Rattle.portfolio.specs.Text.{fed}
 

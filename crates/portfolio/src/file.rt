@@ -1,7 +1,7 @@
 // A portfolio in the bytes of a file: its guide, and cursors to its investees and posts.
 ghost use Rattle.std.specs.Prelude.{◌≡◌, ◌≤◌, length};
 ghost use Rattle.portfolio.specs.Cursors.{investees_left, posts_left, investee_count, post_count};
-ghost use Rattle.portfolio.specs.Layout.{most_investees, most_posts};
+ghost use Rattle.portfolio.specs.Files.{most_investees, most_posts};
 
 use crate::section::Section;
 use entries::guide::Guide;

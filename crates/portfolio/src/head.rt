@@ -1,6 +1,7 @@
 // The first line of a file.
 ghost use Rattle.std.specs.Prelude.{◌≡◌, ◌≤◌};
-ghost use Rattle.portfolio.specs.Layout.{head_of, most_investees, most_posts, within_limits};
+ghost use Rattle.portfolio.specs.Files.{most_investees, most_posts};
+ghost use Rattle.portfolio.specs.Layout.{head_of, within_limits};
 
 use crate::stops::{file_beyond, wrong_field};
 use entries::guide::Guide;

@@ -2,7 +2,8 @@
 ghost use Rattle.std.specs.Prelude.{◌≡◌};
 ghost use Rattle.lines.specs.Pieces.{left_in};
 ghost use Rattle.portfolio.specs.Cursors.{lines_left, NextRead, OneFewer};
-ghost use Rattle.portfolio.specs.Layout.{next_line, gone};
+ghost use Rattle.portfolio.specs.Files.{next_line};
+ghost use Rattle.portfolio.specs.Layout.{gone};
 
 use lines::pieces::Pieces;
 use portfolio_lines::misread::Misread;

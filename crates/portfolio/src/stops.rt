@@ -1,7 +1,7 @@
 // Where a layout stops.
 ghost use Rattle.std.specs.Prelude.{◌≡◌};
 ghost use Rattle.portfolio_lines.specs.Misreads.{place_of};
-ghost use Rattle.portfolio.specs.Layout.{missing, not_laid_out, beyond_limits};
+ghost use Rattle.portfolio.specs.Files.{missing, not_laid_out, beyond_limits};
 
 use crate::head::HEAD_LINE;
 use entries::stop::Stop;
