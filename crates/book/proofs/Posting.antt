@@ -1,6 +1,6 @@
 -- Posts and amendments, from the tests that they share and those of their own.
 use Rattle.std.proofs.Common.{◌≡◌, ℕ, ◌+◌, ◌≤◌, Bool, true, false, cond, not, leb, List, Some, None, Ok, Err, Option, Result, unwrap_or, sym, refl, ap, ◌∙◌, subst, arith}
-use Rattle.std.proofs.ByRecursion.{All-weaker}
+use Rattle.grading.proofs.EachElement.{All-weaker}
 use Rattle.std.proofs.lemmas.Bool.{eqb-true, le-leb, and_from, cond-true}
 use Rattle.faults.specs.Refusals.{fault}
 use Rattle.faults.specs.declared.Fault.{Fault}

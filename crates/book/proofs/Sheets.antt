@@ -1,7 +1,7 @@
 -- A sheet, as the sum of parts over the rows of a book.
 use Rattle.std.proofs.Common.{◌≡◌, ℕ, ◌<◌, ◌≤◌, List, length, get_or, take, sym, ◌∙◌, arith}
 use Rattle.std.specs.List.{AllByRecursion}
-use Rattle.std.proofs.ByRecursion.{All-take, All-weaker, All-get_or}
+use Rattle.grading.proofs.EachElement.{All-take, All-weaker, All-get_or}
 use Rattle.std.proofs.lemmas.List.{length-take}
 use Rattle.rules.specs.Tables.{Tables}
 use Rattle.plain.specs.declared.answers.Kilograms.{Kilograms}

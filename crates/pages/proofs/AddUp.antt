@@ -2,7 +2,7 @@
 use Rattle.std.proofs.Common.{◌≡◌, ℕ, Bool, true, false, cond, eqb, ◌≢◌, List, [], ◌∷◌, reverse, ℤ, pos, ◌+ℤ◌, Some, None, sym, refl, ◌∙◌, arith}
 use mathlib.Core.List.{reverse_aux}
 use lib.IntN.{+ℤ_idr}
-use Rattle.std.proofs.ByRecursion.{All-weaker, All-map, all_kept_by}
+use Rattle.grading.proofs.EachElement.{All-weaker, All-map, all_kept_by}
 use Rattle.std.proofs.lemmas.Bool.{eqb-false}
 use Rattle.rules.specs.Tables.{Tables}
 use Rattle.plain.specs.Branches.{branches}

@@ -4,7 +4,7 @@ use lib.Signed.{mag}
 use Rattle.std.specs.Fmt.{signed_decimal}
 use Rattle.std.specs.List.{flat_map, AllByRecursion}
 use Rattle.std.proofs.lemmas.Fmt.{length-decimal-le, length_signed_le}
-use Rattle.std.proofs.ByRecursion.{All-weaker, All-map}
+use Rattle.grading.proofs.EachElement.{All-weaker, All-map}
 use Rattle.std.proofs.lemmas.List.{length-append, length-map}
 use Rattle.rules.specs.Investees.{last_id}
 use Rattle.rules.specs.Tables.{Tables, Lawful}

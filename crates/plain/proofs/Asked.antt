@@ -1,7 +1,7 @@
 -- What a book asks its rule is in range: a closing balance is at most the exposure, and that is within its limit.
 use Rattle.std.proofs.Common.{◌≡◌, ℕ, zero, suc, ◌-◌, ◌*◌, ◌≤◌, eqb, List, [], ◌∷◌, map, length, get_or, None, Option, sum_by, unwrap_or, ap, arith}
 use Rattle.std.specs.List.{AllByRecursion}
-use Rattle.std.proofs.ByRecursion.{All-weaker, all_kept_by}
+use Rattle.grading.proofs.EachElement.{All-weaker, all_kept_by}
 use Rattle.std.proofs.lemmas.Bool.{cond_both}
 use Rattle.std.proofs.lemmas.List.Sums.{sum_by-cons}
 use Rattle.rules.specs.Investees.{financing_of, ProfileInRange}

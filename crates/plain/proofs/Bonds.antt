@@ -1,7 +1,7 @@
 -- What every run keeps of bonds: each position on one has a balance in the last month only.
 use Rattle.std.proofs.Common.{◌≡◌, ℕ, zero, suc, ◌-◌, Bool, true, false, eqb, ◌≢◌, List, [], ◌∷◌, ◌++◌, length, length-set, get_or, set, replicate, Some, None, Option, sum_by, unwrap_or, sym, refl, ap, ◌∙◌, subst, arith}
 use Rattle.std.specs.List.{AllByRecursion}
-use Rattle.std.proofs.ByRecursion.{All-push, All-weaker, all_kept_by, kept_by_passes}
+use Rattle.grading.proofs.EachElement.{All-push, All-weaker, all_kept_by, kept_by_passes}
 use Rattle.std.proofs.lemmas.List.{get_or-set_other}
 use Rattle.std.proofs.lemmas.List.Sums.{sum_by-cons}
 use Rattle.std.proofs.lemmas.Bool.Decides.{nat_tests}

@@ -1,7 +1,7 @@
 -- What holds of each investee of a book, and of the positions on it, along the changes that calls make.
 use Rattle.std.proofs.Common.{◌≡◌, ℕ, true, false, eqb, ◌≢◌, List, [], ◌∷◌, map, Some, Ok, Err, sym, refl, ap, ◌∙◌, subst, ⊎_elim}
 use Rattle.std.specs.List.{AllByRecursion}
-use Rattle.std.proofs.ByRecursion.{All-weaker}
+use Rattle.grading.proofs.EachElement.{All-weaker}
 use Rattle.std.proofs.lemmas.Bool.{both_ways, cases_eq, ne_eqb, cond-false}
 use Rattle.rules.specs.Investees.{PlainProfile}
 use Rattle.sources.specs.declared.reading.Reading.{Reading}

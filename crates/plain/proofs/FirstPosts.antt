@@ -1,7 +1,7 @@
 -- First posts on a book, each of which adds a position at the end.
 use Rattle.std.proofs.Common.{◌≡◌, ℕ, zero, suc, ◌+◌, ◌/◌, ◌%◌, ◌<◌, ◌≤◌, Bool, false, eqb, List, [], ◌∷◌, ◌++◌, map, length, is_some, Some, None, Option, sym, refl, ap, ◌∙◌, subst, append_assoc, arith}
 use Rattle.std.specs.List.{AllByRecursion}
-use Rattle.std.proofs.ByRecursion.{All-push, All-weaker, All-append, All-map}
+use Rattle.grading.proofs.EachElement.{All-push, All-weaker, All-append, All-map}
 use Rattle.std.proofs.lemmas.List.{append-nil, map-append, length-map, length-append, length_push}
 use Rattle.std.proofs.lemmas.Bool.Decides.{nat_tests}
 use Rattle.std.proofs.lemmas.Bool.{cond-false, cond_both, eqb-true}

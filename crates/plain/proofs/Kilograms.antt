@@ -1,7 +1,7 @@
 -- Answers that are worked out as defined gain and lose no kilogram.
 use Rattle.std.proofs.Common.{◌≡◌, ℕ, cond, List, [], ◌∷◌, ℤ, sym, ◌∙◌, subst}
 use Rattle.std.specs.List.{AllByRecursion}
-use Rattle.std.proofs.ByRecursion.{All-weaker}
+use Rattle.grading.proofs.EachElement.{All-weaker}
 use Rattle.std.proofs.lemmas.List.Sums.{sum_by-cons}
 use Rattle.plain.specs.Branches.{Branch, branches}
 use Rattle.plain.specs.Fractions.{sum_of_fractions}

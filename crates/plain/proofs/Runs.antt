@@ -1,7 +1,7 @@
 -- One call, one call more at the end of a run, and other calls after it.
 use Rattle.std.proofs.Common.{◌≡◌, suc, List, [], ◌∷◌, ◌++◌, length, Some, None, fold, Option, refl, ap, ◌∙◌, subst}
 use Rattle.std.specs.List.{AllByRecursion}
-use Rattle.std.proofs.ByRecursion.{All-append}
+use Rattle.grading.proofs.EachElement.{All-append}
 use Rattle.std.proofs.lemmas.List.Sums.{fold_push}
 use Rattle.faults.specs.declared.Fault.{Fault}
 use Rattle.rules.specs.Tables.{Tables}

@@ -1,6 +1,6 @@
 -- What every run keeps under its rule: bases, amounts above zero, and bonds within their denominators.
 use Rattle.std.proofs.Common.{◌≡◌, ℕ, Bool, true, false, ◌≢◌, ◌&&◌, List, [], ◌∷◌, ◌++◌, map, is_ok, None, Ok, Err, Result, sym, refl, ap, subst, ap₂, arith}
-use Rattle.std.proofs.ByRecursion.{All-push}
+use Rattle.grading.proofs.EachElement.{All-push}
 use Rattle.std.proofs.lemmas.Bool.Decides.{nat_tests}
 use Rattle.std.proofs.lemmas.Bool.{le-ltb, and_right}
 use Rattle.faults.specs.declared.Fault.{Fault}

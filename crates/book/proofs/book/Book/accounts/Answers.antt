@@ -1,5 +1,5 @@
 use Rattle.std.proofs.Common.{map, set, Some, refl, ap, ◌∙◌, take_all}
-use Rattle.std.proofs.ByRecursion.{All-get_or}
+use Rattle.grading.proofs.EachElement.{All-get_or}
 use Rattle.plain.specs.Limits.{most_investees}
 use Rattle.plain.specs.Readings.{account_of}
 use Rattle.positions.specs.View.{positions_in}

@@ -1,5 +1,5 @@
 use Rattle.std.proofs.Common.{map, [], ◌∷◌, ◌++◌, sym, ap, ◌∙◌, take_all}
-use Rattle.std.proofs.ByRecursion.{All-get_or}
+use Rattle.grading.proofs.EachElement.{All-get_or}
 use Rattle.std.proofs.lemmas.List.{map_more}
 use Rattle.positions.specs.View.{positions_in}
 use Rattle.book.specs.Lines.{line_of}
