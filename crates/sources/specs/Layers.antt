@@ -43,9 +43,13 @@ abbrev pub offset_out_of_range : OffsetFigures → Bool
 offset_out_of_range f =
     nat_lt most_offset f.green_power || (nat_lt most_offset f.ccer || nat_lt most_offset f.tickets)
 
+-- what a megawatt hour of green power spares, in tenths of a kilogram
+abbrev pub green_power_factor : ℕ
+green_power_factor = 5703
+
 -- kilograms offset: 570.3 for a megawatt hour of green power, toward zero, and 1,000 for a tonne cancelled
 abbrev pub offset_sum : OffsetFigures → ℕ
-offset_sum f = f.green_power * 5703 / 10 + 1000 * (f.ccer + f.tickets)
+offset_sum f = f.green_power * green_power_factor / 10 + 1000 * (f.ccer + f.tickets)
 
 -- offset: less that sum
 abbrev pub offset_meaning : OffsetFigures → Result Reading Fault → Result Reading Fault

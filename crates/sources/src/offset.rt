@@ -10,6 +10,9 @@ use faults::{Fault, Refusal};
 // The most of each offset.
 pub const MOST_OFFSET: u64 = 1_000_000_000;
 
+/// What a megawatt hour of green power spares, in tenths of a kilogram. It is a number of its own: an energy bill's factor for power elsewhere has the same value today and need not keep it.
+pub const GREEN_POWER_FACTOR: u64 = 5_703;
+
 // Megawatt hours of green power, and tonnes of cancelled CCER and of cancelled forestry tickets, as a caller sends
 // them: all three numbers may be anything.
 #[derive(Clone, Copy)]
@@ -31,7 +34,7 @@ impl OffsetFigures {
         if self.out_of_range() {
             return None;
         }
-        Some(self.green_power * 5_703 / 10 + 1_000 * (self.ccer + self.tickets))
+        Some(self.green_power * GREEN_POWER_FACTOR / 10 + 1_000 * (self.ccer + self.tickets))
     }
 
     fn out_of_range(self) -> bool
