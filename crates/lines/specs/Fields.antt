@@ -53,6 +53,10 @@ ended (Err e) = Err e
 ended (Ok (ns, [])) = Ok ns
 ended (Ok (ns, f ∷ fields)) = Err Surplus
 
+-- the most bytes of a line, without its line feed
+abbrev pub most_line_bytes : ℕ
+most_line_bytes = 511
+
 -- a line of k numbers with one space (32) between them, without its line feed
 abbrev pub line_of : ℕ → List ℕ → Result (List ℕ) LineError
-line_of k bytes = cond (nat_lt 511 (length bytes)) (Err TooLong) (ended (fields_of k (pieces 32 bytes)))
+line_of k bytes = cond (nat_lt most_line_bytes (length bytes)) (Err TooLong) (ended (fields_of k (pieces 32 bytes)))

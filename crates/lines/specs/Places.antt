@@ -4,7 +4,7 @@
 --   after    the field at that place, and those behind it; none where the field is missing
 use Rattle.std.specs.Prelude.{◌≡◌, ℕ, ◌^◌, ◌<◌, ◌≤◌, List, [], ◌∷◌, ◌++◌, map, length, decimal, Err, Result}
 use Rattle.std.specs.List.{AllByRecursion}
-use Rattle.lines.specs.Fields.{pieces}
+use Rattle.lines.specs.Fields.{most_line_bytes, pieces}
 use Rattle.lines.specs.declared.fields.LineError.{LineError}
 use Rattle.lines.specs.declared.fields.LineError.TheVariants.{TooLong, Field, Surplus}
 
@@ -35,9 +35,9 @@ pub record FieldsOfNumbers (k : ℕ) (fields : List (List ℕ)) : Type 0 where
 
 -- why bytes are no line of k numbers: they are more than 511, or one of the k fields is wrong or missing, or there is one too many
 abbrev pub WrongNumberLine : ℕ → List ℕ → LineError → Type 0
-WrongNumberLine k line TooLong = 511 < length line
-WrongNumberLine k line (Field i) = (length line ≤ 511) × (i < k) × WrongAt (FieldsOfNumbers k) (pieces 32 line) i
-WrongNumberLine k line Surplus = (length line ≤ 511) × WrongAt (FieldsOfNumbers k) (pieces 32 line) k
+WrongNumberLine k line TooLong = most_line_bytes < length line
+WrongNumberLine k line (Field i) = (length line ≤ most_line_bytes) × (i < k) × WrongAt (FieldsOfNumbers k) (pieces 32 line) i
+WrongNumberLine k line Surplus = (length line ≤ most_line_bytes) × WrongAt (FieldsOfNumbers k) (pieces 32 line) k
 
 -- a line is refused just where it is wrong, and for that reason
 abbrev pub RefusesWrongNumberLines : ℕ → List ℕ → Result (List ℕ) LineError → Type 0

@@ -2,7 +2,7 @@
 use Rattle.std.specs.Prelude.{◌≡◌, ℕ, ◌-◌, ◌^◌, ◌<◌, ◌≤◌, List, [], ◌∷◌, ◌++◌, map, length, Ok, decimal, Result}
 use Rattle.std.specs.List.{between, AllByRecursion}
 use Rattle.lines.specs.declared.fields.LineError.{LineError}
-use Rattle.lines.specs.Fields.{line_of}
+use Rattle.lines.specs.Fields.{most_line_bytes, line_of}
 
 -- pieces with a separator between them
 abbrev pub join : ℕ → List (List ℕ) → List ℕ
@@ -23,7 +23,7 @@ pub record LineOfNumbers (k : ℕ) (ns bytes : List ℕ) : Type 0 where
   pub count : length ns ≡ k
   pub digits : AllByRecursion (λ n. n < 10 ^ 13) ns
   pub bytes_are : bytes ≡ printed ns
-  pub short : length bytes ≤ 511
+  pub short : length bytes ≤ most_line_bytes
 
 -- numbers are read just where the bytes are their line
 abbrev pub AcceptsWhatIsPrinted : ℕ → List ℕ → Result (List ℕ) LineError → Type 0
@@ -33,7 +33,7 @@ AcceptsWhatIsPrinted k bytes r = (ns : List ℕ) → (r ≡ Ok ns → LineOfNumb
 pub record FitOneLine (ns : List ℕ) : Type 0 where
   pub some_number : 0 < length ns
   pub digits : AllByRecursion (λ n. n < 10 ^ 13) ns
-  pub short : length (printed ns) ≤ 511
+  pub short : length (printed ns) ≤ most_line_bytes
 
 -- a line of these numbers that stands in a buffer between two places reads, without its line feed, as these numbers
 abbrev pub ReadsBack : List ℕ → List ℕ → ℕ → ℕ → Type 0

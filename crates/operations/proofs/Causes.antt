@@ -9,7 +9,7 @@ use Rattle.faults.specs.declared.Fault.{Fault}
 use Rattle.faults.specs.declared.Refusal.TheVariants.{OwnItem}
 use Rattle.faults.specs.Refusals.{fault}
 use Rattle.operations.specs.declared.items.Item.{Item}
-use Rattle.operations.specs.Items.{acceptable}
+use Rattle.operations.specs.Items.{acceptable, most_items}
 use Rattle.operations.specs.Tables.{refusal_of, FirstRefused, RefusedFor}
 
 all-accepted : (xs : List Item) → length xs ≤ prefix_len acceptable xs → AllByRecursion (λ x. acceptable x ≡ true) xs
@@ -39,7 +39,7 @@ first-refused (x ∷ xs) h = by (acceptable x) refl (first-refused xs) h
         }
 
 -- a search for the first item that is not acceptable answers the refusal of a table that is not too long
-pub refusal-from-first : (xs : List Item) (r : Option ℕ) → length xs ≤ 64
+pub refusal-from-first : (xs : List Item) (r : Option ℕ) → length xs ≤ most_items
     → MatchOption r (AllWithin (λ x. acceptable x ≡ true) xs 0 (length xs)) (λ i. (i < length xs) × HoldsAt (λ x. acceptable x ≡ false) xs i × AllWithin (λ x. acceptable x ≡ true) xs 0 i)
     → refusal_of xs ≡ option_map (λ i. fault OwnItem (i + 1) 0) r
 refusal-from-first xs r few first = by r first (index_from_first (prefix_len acceptable) (λ x. acceptable x ≡ false) (λ x. acceptable x ≡ true) refl (λ x xs e. grind (arith, e)) (λ x xs e. grind (arith, e)) xs r first)
@@ -51,20 +51,20 @@ refusal-from-first xs r few first = by r first (index_from_first (prefix_len acc
     by (Some i) h e = let lt : i < length xs = h.0 in grind (arith, nat_tests, e)
 
 pub refused-for : (xs : List Item) (r : Option Fault) → r ≡ refusal_of xs → RefusedFor xs r
-refused-for xs r e = subst (RefusedFor xs) (sym e) (⊎_elim many few (cases_lt 64 (length xs)))
+refused-for xs r e = subst (RefusedFor xs) (sym e) (⊎_elim many few (cases_lt most_items (length xs)))
   where
-    many : 64 < length xs → RefusedFor xs (refusal_of xs)
-    many h = subst (RefusedFor xs) (sym (cond-true (ltb 64 (length xs)) _ _ (lt-ltb 64 (length xs) h))) (inl (h, refl))
+    many : most_items < length xs → RefusedFor xs (refusal_of xs)
+    many h = subst (RefusedFor xs) (sym (cond-true (ltb most_items (length xs)) _ _ (lt-ltb most_items (length xs) h))) (inl (h, refl))
 
-    some : length xs ≤ 64 → prefix_len acceptable xs < length xs → RefusedFor xs (refusal_of xs)
+    some : length xs ≤ most_items → prefix_len acceptable xs < length xs → RefusedFor xs (refusal_of xs)
     some h k =
-        subst (RefusedFor xs) (sym (cond-false (ltb 64 (length xs)) _ _ (le-ltb 64 (length xs) h) ∙ cond-true (ltb (prefix_len acceptable xs) (length xs)) _ _ (lt-ltb _ _ k)))
+        subst (RefusedFor xs) (sym (cond-false (ltb most_items (length xs)) _ _ (le-ltb most_items (length xs) h) ∙ cond-true (ltb (prefix_len acceptable xs) (length xs)) _ _ (lt-ltb _ _ k)))
         (inr (h, first-refused xs k))
 
-    none : length xs ≤ 64 → length xs ≤ prefix_len acceptable xs → RefusedFor xs (refusal_of xs)
+    none : length xs ≤ most_items → length xs ≤ prefix_len acceptable xs → RefusedFor xs (refusal_of xs)
     none h k =
-        subst (RefusedFor xs) (sym (cond-false (ltb 64 (length xs)) _ _ (le-ltb 64 (length xs) h) ∙ cond-false (ltb (prefix_len acceptable xs) (length xs)) _ _ (le-ltb _ _ k)))
+        subst (RefusedFor xs) (sym (cond-false (ltb most_items (length xs)) _ _ (le-ltb most_items (length xs) h) ∙ cond-false (ltb (prefix_len acceptable xs) (length xs)) _ _ (le-ltb _ _ k)))
         (h, all-accepted xs k)
 
-    few : length xs ≤ 64 → RefusedFor xs (refusal_of xs)
+    few : length xs ≤ most_items → RefusedFor xs (refusal_of xs)
     few h = ⊎_elim (some h) (none h) (cases_lt (prefix_len acceptable xs) (length xs))

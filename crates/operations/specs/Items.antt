@@ -7,6 +7,14 @@ use Rattle.operations.specs.declared.items.Item.{Item}
 abbrev pub item_of : ℕ → ℕ → ℕ → Item
 item_of row quantity grade = record { activity = record { row = row; quantity = quantity }; grade = grade; kilograms = 0 }
 
+-- the most items of a table
+abbrev pub most_items : ℕ
+most_items = 64
+
+-- the most kilograms of an item
+abbrev pub most_kilograms : ℕ
+most_kilograms = 1000000000000
+
 -- nothing where a number is above the limit
 abbrev pub at_most : ℕ → Option ℕ → Option ℕ
 at_most limit None = None
@@ -14,7 +22,7 @@ at_most limit (Some n) = cond (nat_le n limit) (Some n) None
 
 -- what the item comes to, by itself; nothing where its row, quantity or grade is out of range or it passes 10^12 kilograms
 abbrev pub kilograms_in : Item → Option ℕ
-kilograms_in x = cond (nat_le 1 x.grade && nat_le x.grade 5) (at_most 1000000000000 (kilograms_of x.activity)) None
+kilograms_in x = cond (nat_le 1 x.grade && nat_le x.grade 5) (at_most most_kilograms (kilograms_of x.activity)) None
 
 abbrev pub acceptable : Item → Bool
 acceptable x = is_some (kilograms_in x)

@@ -7,12 +7,12 @@ use Rattle.faults.specs.Refusals.{fault}
 use Rattle.grading.specs.Mean.{mean_of}
 use Rattle.operations.specs.declared.items.Item.{Item}
 use Rattle.operations.specs.declared.items.Totals.{Totals}
-use Rattle.operations.specs.Items.{acceptable, worked}
+use Rattle.operations.specs.Items.{acceptable, worked, most_items}
 
 -- more than 64 items are refused at place 0; then the first item that is not acceptable, at its place from 1
 abbrev pub refusal_of : List Item → Option Fault
 refusal_of xs =
-    cond (nat_lt 64 (length xs)) (Some (fault OwnItem 0 0))
+    cond (nat_lt most_items (length xs)) (Some (fault OwnItem 0 0))
     (cond (nat_lt (prefix_len acceptable xs) (length xs)) (Some (fault OwnItem (prefix_len acceptable xs + 1) 0)) None)
 
 -- the kilograms added up, and the mean grade weighted by them
@@ -47,8 +47,8 @@ pub record FirstRefused (xs : List Item) (place : ℕ) : Type 0 where
 
 -- what a refusal says of the table, and what it says that there is none
 abbrev pub RefusedFor : List Item → Option Fault → Type 0
-RefusedFor xs None = (length xs ≤ 64) × AllByRecursion (λ x. acceptable x ≡ true) xs
-RefusedFor xs (Some f) = ((64 < length xs) × (f.place ≡ 0)) ⊎ ((length xs ≤ 64) × FirstRefused xs f.place)
+RefusedFor xs None = (length xs ≤ most_items) × AllByRecursion (λ x. acceptable x ≡ true) xs
+RefusedFor xs (Some f) = ((most_items < length xs) × (f.place ≡ 0)) ⊎ ((length xs ≤ most_items) × FirstRefused xs f.place)
 
 abbrev pub AnsweredFor : List Item → Result Totals Fault → Type 0
 AnsweredFor xs (Ok totals) = RefusedFor xs None

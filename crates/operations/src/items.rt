@@ -1,6 +1,6 @@
 // What a lender used, item by item.
 ghost use Rattle.std.specs.Prelude.{◌≡◌, min, nat_le};
-ghost use Rattle.operations.specs.Items.{item_of, kilograms_in, worked};
+ghost use Rattle.operations.specs.Items.{item_of, kilograms_in, most_kilograms, worked};
 
 use factors::Activity;
 use grading::Graded;
@@ -26,7 +26,7 @@ pub struct Totals {
 
 // Within the limits of an item that has been worked out, these are its kilograms and its grade.
 impl Graded for Item {
-    ghost weight = { λ x. min x.kilograms 1000000000000 };
+    ghost weight = { λ x. min x.kilograms most_kilograms };
 
     ghost grade = { λ x. min x.grade 5 };
 
@@ -41,7 +41,7 @@ impl Graded for Item {
 
 // A function of its own, so that the limit itself is proved: no quantity comes to just 10^12.
 fn within_limit(kilograms: u64) -> bool
-    ensures { result ≡ nat_le kilograms 1000000000000 }
+    ensures { result ≡ nat_le kilograms most_kilograms }
 {
     kilograms <= MOST_KILOGRAMS
 }

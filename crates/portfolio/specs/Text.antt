@@ -8,6 +8,7 @@ use Rattle.entries.specs.declared.stop.Stop.{Stop}
 use Rattle.lines.specs.Render.{printed}
 use Rattle.portfolio_lines.specs.Text.{ThirteenDigits, head_numbers, method_numbers, investee_line}
 use Rattle.portfolio.specs.Files.{most_bytes, most_investees, most_posts}
+use Rattle.lines.specs.Fields.{most_line_bytes}
 
 -- line 1: the number of investees, the number of posts, the guide's number
 abbrev pub head_line : PlainPortfolio → List ℕ
@@ -42,7 +43,7 @@ pub record IsTextOf (f : PlainPortfolio) (bytes : List ℕ) : Type 0 where
   pub bytes_are : bytes ≡ text f
   pub investee_digits : AllByRecursion InvesteeDigits f.investees
   pub post_digits : AllByRecursion PostDigits f.posts
-  pub short_lines : AllByRecursion (λ line. length line ≤ 511) (lines_of f)
+  pub short_lines : AllByRecursion (λ line. length line ≤ most_line_bytes) (lines_of f)
   pub few_investees : length f.investees ≤ most_investees
   pub few_posts : length f.posts ≤ most_posts
   pub short : length bytes ≤ most_bytes

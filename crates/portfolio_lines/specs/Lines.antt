@@ -14,10 +14,11 @@ use Rattle.portfolio_lines.specs.Numbers.{number_at, numbers_before_method, id_p
 use Rattle.portfolio_lines.specs.declared.misread.Misread.{Misread}
 use Rattle.portfolio_lines.specs.declared.misread.Misread.TheVariants.{TooLong}
 use Rattle.portfolio_lines.specs.declared.posts.Key.{Key}
+use Rattle.lines.specs.Fields.{most_line_bytes}
 
 -- a line that is read to its end; one of more than 511 bytes is wrong as a whole
 abbrev pub whole_line : {X : Type 0} → (FieldsLeft → Reading X) → List ℕ → Result X Misread
-whole_line read line = cond (nat_lt 511 (length line)) (Err TooLong) (and_then (read (fields_of line)) (λ r. none_left r.0 r.1))
+whole_line read line = cond (nat_lt most_line_bytes (length line)) (Err TooLong) (and_then (read (fields_of line)) (λ r. none_left r.0 r.1))
 
 -- k numbers
 abbrev pub number_line : ℕ → List ℕ → Result (List ℕ) Misread

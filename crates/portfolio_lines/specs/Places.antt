@@ -1,7 +1,7 @@
 -- Where a line of a portfolio file is wrong, said by its fields alone, for lines of numbers and for investees alike.
 use Rattle.std.specs.Prelude.{◌≡◌, ℕ, zero, suc, ◌<◌, ◌≤◌, List, length, Err, Result}
 use Rattle.entries.specs.Entries.{PlainEntry}
-use Rattle.lines.specs.Fields.{pieces}
+use Rattle.lines.specs.Fields.{most_line_bytes, pieces}
 use Rattle.lines.specs.Places.{WrongAt}
 use Rattle.portfolio_lines.specs.Text.{ThirteenDigits, head_numbers, method_numbers, investee_fields}
 use Rattle.portfolio_lines.specs.declared.misread.Misread.{Misread}
@@ -15,15 +15,15 @@ pub record FieldsOfInvestee (fields : List (List ℕ)) : Type 0 where
 
 -- the line is of the form, and has at most 511 bytes
 pub record LineOf (Form : List (List ℕ) → Type 0) (line : List ℕ) : Type 0 where
-  pub short : length line ≤ 511
+  pub short : length line ≤ most_line_bytes
   pub fields : Form (pieces 32 line)
 
 -- Why a line is not of a form. One of more than 511 bytes is wrong as a whole, whatever it holds.
 -- Of another, the fields before the place begin some line of the form, and with the field at the place they begin none. Places count from 1.
 abbrev pub WrongLine : (List (List ℕ) → Type 0) → List ℕ → Misread → Type 0
-WrongLine Form line TooLong = 511 < length line
+WrongLine Form line TooLong = most_line_bytes < length line
 WrongLine Form line (Field zero) = ⊥
-WrongLine Form line (Field (suc i)) = (length line ≤ 511) × WrongAt Form (pieces 32 line) i
+WrongLine Form line (Field (suc i)) = (length line ≤ most_line_bytes) × WrongAt Form (pieces 32 line) i
 
 -- a line is refused just where it is wrong, and for that reason
 abbrev pub RefusesWrongLines : {X : Type 0} → (List (List ℕ) → Type 0) → List ℕ → Result X Misread → Type 0

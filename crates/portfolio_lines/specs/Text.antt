@@ -10,6 +10,7 @@ use Rattle.portfolio_lines.specs.Lines.{investee_of}
 use Rattle.portfolio_lines.specs.Numbers.{numbers_of_key, numbers_of_balance}
 use Rattle.portfolio_lines.specs.declared.misread.Misread.{Misread}
 use Rattle.portfolio_lines.specs.declared.posts.Key.{Key}
+use Rattle.lines.specs.Fields.{most_line_bytes}
 
 -- each number has at most 13 digits
 abbrev pub ThirteenDigits : List ℕ → Type 0
@@ -48,7 +49,7 @@ investee_line e = join 32 (investee_fields e)
 pub record IsInvesteeLine (e : PlainEntry) (line : List ℕ) : Type 0 where
   pub line_is : line ≡ investee_line e
   pub digits : ThirteenDigits (head_numbers e) × ThirteenDigits (method_numbers e.method)
-  pub short : length line ≤ 511
+  pub short : length line ≤ most_line_bytes
 
 -- ---- a post
 
