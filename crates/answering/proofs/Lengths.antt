@@ -8,8 +8,7 @@ use Rattle.entries.specs.declared.stop.Stop.{Stop}
 use Rattle.faults.specs.Refusals.{number_of}
 use Rattle.lines.specs.declared.writing.Writer.{Writer}
 use Rattle.lines.specs.Writing.{Wrote}
-use Rattle.pages.specs.Placed.{room}
-use Rattle.answering.specs.Buffers.{placed_text}
+use Rattle.pages.specs.Placed.{room, placed}
 use Rattle.answering.specs.Stops.{stop_numbers, stop_line}
 
 twenty : (n : ℕ) → n < 2 ^ 64 → length (decimal n) ≤ 20
@@ -28,7 +27,7 @@ pub record StopLine (s : Stop) (was now : Writer) (r : Option (Unit {0})) : Type
   pub some : IsSome r
   pub bytes : now.at ≡ length (stop_line s)
   pub within : now.at ≤ room
-  pub placed : now.buffer.now ≡ placed_text (stop_line s) was.buffer.now
+  pub placed : now.buffer.now ≡ placed (stop_line s) was.buffer.now
 
 pub stop-written : {was now : Writer} (s : Stop) (r : Option (Unit {0})) → was.at ≡ 0 → room ≤ length was.buffer.now → AllByRecursion (λ n. n < 2 ^ 64) (stop_numbers s)
     → Wrote was (stop_line s) now r → StopLine s was now r

@@ -1,3 +1,2 @@
 pub mod Answers
-pub mod Buffers
 pub mod Stops

@@ -1,10 +1,9 @@
 // The answer to a file, in a buffer that the caller lends.
 ghost use Rattle.std.specs.Prelude.{◌≡◌, ◌≤◌, length, Ok, IfOk, OnOk};
 ghost use Rattle.loading.specs.Loading.{entered, loading_of, LoadsPortfolios};
-ghost use Rattle.pages.specs.Placed.{room};
+ghost use Rattle.pages.specs.Placed.{room, text_result, buffer_after};
 ghost use Rattle.portfolio.specs.Seen.{plain_portfolio};
 ghost use Rattle.answering.specs.Answers.{answer_of, answer_to, AnswerAddsUp};
-ghost use Rattle.answering.specs.Buffers.{answer_result, answer_buffer};
 
 use crate::stops::write_stop;
 use book::book::Book;
@@ -17,8 +16,8 @@ use portfolio::layout::read;
 // The answer to a portfolio. A function of its own, so that a book is made only where there is one, and stays where it is made.
 fn answer_portfolio(portfolio: Portfolio<'_>, buffer: &mut [u8]) -> Result<usize, Fault>
     requires { room ≤ length buffer.old }
-    ensures result { result ≡ answer_result (answer_of (Ok (entered (plain_portfolio portfolio.entry)))) buffer.old }
-    ensures buffer { buffer.new ≡ answer_buffer (answer_of (Ok (entered (plain_portfolio portfolio.entry)))) buffer.old }
+    ensures result { result ≡ text_result (answer_of (Ok (entered (plain_portfolio portfolio.entry)))) buffer.old }
+    ensures buffer { buffer.new ≡ buffer_after (answer_of (Ok (entered (plain_portfolio portfolio.entry)))) buffer.old }
     ensures within { IfOk result (λ length. length ≤ room) }
     ensures adds_up { OnOk result (AnswerAddsUp (Ok (entered (plain_portfolio portfolio.entry)))) }
 {
@@ -33,8 +32,8 @@ fn answer_portfolio(portfolio: Portfolio<'_>, buffer: &mut [u8]) -> Result<usize
 /// or the one line `X line refusal place source`. The rest of the buffer stays. A buffer that is too short is refused
 /// and left as it was.
 pub fn answer(bytes: &[u8], buffer: &mut [u8]) -> Result<usize, Fault>
-    ensures result { result ≡ answer_result (answer_to bytes.now) buffer.old }
-    ensures buffer { buffer.new ≡ answer_buffer (answer_to bytes.now) buffer.old }
+    ensures result { result ≡ text_result (answer_to bytes.now) buffer.old }
+    ensures buffer { buffer.new ≡ buffer_after (answer_to bytes.now) buffer.old }
     ensures within { IfOk result (λ length. length ≤ room) }
     ensures portfolios { OnOk result (LoadsPortfolios bytes.now (loading_of bytes.now)) }
     ensures adds_up { OnOk result (AnswerAddsUp (loading_of bytes.now)) }

@@ -2,8 +2,7 @@
 ghost use Rattle.std.specs.Prelude.{◌≡◌, ◌^◌, ◌<◌, ◌≤◌, length};
 ghost use Rattle.std.specs.List.{AllByRecursion};
 ghost use Rattle.lines.specs.Writing.{Wrote};
-ghost use Rattle.pages.specs.Placed.{room};
-ghost use Rattle.answering.specs.Buffers.{placed_text};
+ghost use Rattle.pages.specs.Placed.{room, placed};
 ghost use Rattle.answering.specs.Stops.{stop_numbers, stop_line};
 
 use entries::stop::Stop;
@@ -37,7 +36,7 @@ pub(crate) fn write_stop(buffer: &mut [u8], stop: Stop) -> usize
     requires { room ≤ length buffer.old }
     ensures bytes { result ≡ length (stop_line stop) }
     ensures within { result ≤ room }
-    ensures buffer { buffer.new ≡ placed_text (stop_line stop) buffer.old }
+    ensures buffer { buffer.new ≡ placed (stop_line stop) buffer.old }
 {
     let mut page = Writer { buffer, at: 0 };
     put_stop(&mut page, stop).unwrap();

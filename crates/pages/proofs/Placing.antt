@@ -31,7 +31,7 @@ module _ (t : Tables) (lawful : Lawful t) (p : PlainBook) (kept : KeptByEveryRun
   pub record Page (was now : Writer) (r : Option (Unit {0})) : Type 0 where
     pub some : IsSome r
     pub bytes : now.at ≡ length (page_text t p)
-    pub buffer_after : now.buffer.now ≡ placed t p was.buffer.now
+    pub buffer_after : now.buffer.now ≡ placed (page_text t p) was.buffer.now
     pub short : now.at ≤ room
 
   pub page-written : {was now : Writer} (r : Option (Unit {0})) → was.at ≡ 0 → room ≤ length was.buffer.now → Wrote was (page_of (given accounts) sheets total.all.kilograms.emissions) now r → Page was now r

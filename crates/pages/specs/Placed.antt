@@ -1,4 +1,4 @@
--- A page in a buffer: what a call for it answers, what the buffer then holds, and what is so of every page.
+-- A text in a buffer that has to have room for every page: what a call for it answers, and what the buffer then holds. And what is so of every page.
 use Rattle.std.specs.Prelude.{◌≡◌, ℕ, cond, List, ◌++◌, length, drop, ℤ, pos, Some, None, Ok, Err, Option, Result, nat_lt}
 use Rattle.faults.specs.Refusals.{fault}
 use Rattle.faults.specs.declared.Fault.{Fault}
@@ -8,7 +8,6 @@ use Rattle.plain.specs.declared.answers.Kilograms.{Kilograms}
 use Rattle.plain.specs.PlainBook.{PlainBook}
 use Rattle.plain.specs.Readings.{accounts_of, sheets_of, book_total_of}
 use Rattle.plain.specs.Sums.{sum_over}
-use Rattle.pages.specs.Page.{page_text}
 
 -- a buffer of fewer bytes is too short
 abbrev pub room : ℕ
@@ -17,16 +16,16 @@ room = 8192
 abbrev pub room_result : List ℕ → Result (Unit {0}) Fault
 room_result buffer = cond (nat_lt (length buffer) room) (Err (fault PageTooShort 0 0)) (Ok tt)
 
--- how long the page is
-abbrev pub page_result : Tables → PlainBook → List ℕ → Result ℕ Fault
-page_result t p buffer = cond (nat_lt (length buffer) room) (Err (fault PageTooShort 0 0)) (Ok (length (page_text t p)))
+-- a text at the start of a buffer, and after it what stood there
+abbrev pub placed : List ℕ → List ℕ → List ℕ
+placed text buffer = text ++ drop (length text) buffer
 
--- the page, and after it what stood there
-abbrev pub placed : Tables → PlainBook → List ℕ → List ℕ
-placed t p buffer = page_text t p ++ drop (length (page_text t p)) buffer
+-- how long the text is
+abbrev pub text_result : List ℕ → List ℕ → Result ℕ Fault
+text_result text buffer = cond (nat_lt (length buffer) room) (Err (fault PageTooShort 0 0)) (Ok (length text))
 
-abbrev pub buffer_after : Tables → PlainBook → List ℕ → List ℕ
-buffer_after t p buffer = cond (nat_lt (length buffer) room) buffer (placed t p buffer)
+abbrev pub buffer_after : List ℕ → List ℕ → List ℕ
+buffer_after text buffer = cond (nat_lt (length buffer) room) buffer (placed text buffer)
 
 -- the kilograms on the line of a branch; without a position there is no line, and nothing on it
 abbrev pub on_line : Option Kilograms → ℤ

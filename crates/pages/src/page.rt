@@ -2,7 +2,7 @@
 ghost use Rattle.std.specs.Prelude.{◌≡◌, ◌≤◌, length, IfOk};
 ghost use Rattle.book.specs.View.{plain};
 ghost use Rattle.pages.specs.Page.{page_text};
-ghost use Rattle.pages.specs.Placed.{room, room_result, page_result, placed, buffer_after, PageAddsUp};
+ghost use Rattle.pages.specs.Placed.{room, room_result, text_result, placed, buffer_after, PageAddsUp};
 
 use crate::tables::put_page;
 use book::book::Book;
@@ -27,7 +27,7 @@ pub fn check_room(buffer: &[u8]) -> Result<(), Fault>
 fn write_page<R: Rule>(book: &Book<'_, R>, buffer: &mut [u8]) -> usize
     requires { room ≤ length buffer.old }
     ensures bytes { result ≡ length (page_text (R.tables book.now.rule.now) (plain book.now)) }
-    ensures buffer { buffer.new ≡ placed (R.tables book.now.rule.now) (plain book.now) buffer.old }
+    ensures buffer { buffer.new ≡ placed (page_text (R.tables book.now.rule.now) (plain book.now)) buffer.old }
     ensures within { result ≤ room }
 {
     let accounts = book.accounts();
@@ -41,8 +41,8 @@ fn write_page<R: Rule>(book: &Book<'_, R>, buffer: &mut [u8]) -> usize
 // The page at the start of the buffer, and how long it is. The rest of the buffer stays. A buffer that is too short is
 // refused and left as it was.
 pub fn page<R: Rule>(book: &Book<'_, R>, buffer: &mut [u8]) -> Result<usize, Fault>
-    ensures result { result ≡ page_result (R.tables book.now.rule.now) (plain book.now) buffer.old }
-    ensures buffer { buffer.new ≡ buffer_after (R.tables book.now.rule.now) (plain book.now) buffer.old }
+    ensures result { result ≡ text_result (page_text (R.tables book.now.rule.now) (plain book.now)) buffer.old }
+    ensures buffer { buffer.new ≡ buffer_after (page_text (R.tables book.now.rule.now) (plain book.now)) buffer.old }
     ensures within { IfOk result (λ bytes. bytes ≤ room) }
     ensures adds_up { PageAddsUp (R.tables book.now.rule.now) (plain book.now) }
 {
