@@ -1,7 +1,7 @@
 -- That every product of a reading fits, from what a book keeps.
-use Rattle.std.proofs.Common.{◌≡◌, ℕ, ◌+◌, ◌*◌, ◌≤◌, max, List, [], ◌∷◌, map, nat_abs, None, Some, Ok, Err, ok_or, Option, Result, sym, ap, subst, arith}
+use Rattle.std.proofs.Common.{◌≡◌, ℕ, ◌+◌, ◌*◌, ◌<◌, ◌≤◌, max, List, [], ◌∷◌, map, length, get_or, nat_abs, None, Some, Ok, Err, ok_or, Option, Result, sym, ap, subst, arith}
 use Rattle.std.specs.List.{AllByRecursion}
-use Rattle.grading.proofs.EachElement.{All-weaker}
+use Rattle.grading.proofs.EachElement.{All-get_or, All-weaker}
 use Rattle.faults.specs.Refusals.{fault}
 use Rattle.faults.specs.declared.Fault.{Fault}
 use Rattle.faults.specs.declared.Refusal.{Refusal}
@@ -91,3 +91,9 @@ rows-within rows qs held read same =
     let p = plain_rows rows qs in
     subst (AllByRecursion (λ row. WithinBook (positions_in qs) (plain_investee row))) (sym same)
     (all-viewed (WithinBook p.positions) plain_investee rows (all-within p (kept_of p held)))
+
+-- the row at a place of them
+pub row-within : (rows : List InvesteeRow) (qs : Positions) → ∥ KeptByEveryRun (plain_rows rows qs) ∥₁ → (read : List InvesteeRow) → read ≡ rows → (k : ℕ) (row : InvesteeRow) → k < length read → row ≡ get_or read k row → WithinBook (positions_in qs) (plain_investee row)
+row-within rows qs held read same k row inside is =
+    subst (λ (r : InvesteeRow). WithinBook (positions_in qs) (plain_investee r)) (sym is)
+    (All-get_or (λ r. WithinBook (positions_in qs) (plain_investee r)) read k row inside (rows-within rows qs held read same))
