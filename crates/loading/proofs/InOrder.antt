@@ -11,11 +11,11 @@ use Rattle.entries.specs.Stops.{stop_at}
 use Rattle.entries.specs.declared.investee.PostEntry.{PostEntry}
 use Rattle.entries.specs.declared.stop.Stop.{Stop}
 use Rattle.plain.proofs.EveryRun.{every-run-keeps}
-use Rattle.plain.specs.EveryRun.{HoldsWhole, ReachedByARun}
+use Rattle.plain.specs.EveryRun.{HoldsWhole}
 use Rattle.plain.specs.Kept.{KeptByEveryRun}
 use Rattle.plain.specs.PlainBook.{PlainBook, empty}
 use Rattle.plain.specs.Refused.{declined}
-use Rattle.plain.specs.Runs.{after, run, unless}
+use Rattle.plain.specs.Runs.{after, run, unless, ReachedByARun}
 use Rattle.plain.specs.Steps.{Step, WithinSourceLimits}
 use Rattle.portfolio.specs.Layout.{layout_of}
 use Rattle.portfolio.specs.Refused.{Refused, RefusesRightly}

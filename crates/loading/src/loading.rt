@@ -2,9 +2,9 @@
 ghost use Rattle.std.specs.Prelude.{◌≡◌, ◌+◌, ◌^◌, ◌<◌, List, length, IfOk};
 ghost use Rattle.std.specs.Iterator.{IsFinite, size};
 ghost use Rattle.std.specs.Result.{result_err};
-ghost use Rattle.plain.specs.EveryRun.{HoldsWhole, ReachedByARun};
+ghost use Rattle.plain.specs.EveryRun.{HoldsWhole};
 ghost use Rattle.plain.specs.Refused.{declined};
-ghost use Rattle.plain.specs.Runs.{after};
+ghost use Rattle.plain.specs.Runs.{after, ReachedByARun};
 ghost use Rattle.plain.specs.Steps.{Step};
 ghost use Rattle.book.specs.View.{plain};
 ghost use Rattle.portfolio.specs.Seen.{plain_portfolio};
