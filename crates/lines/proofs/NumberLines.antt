@@ -1,7 +1,7 @@
 -- A line of numbers, one number after another.
-use Rattle.std.proofs.Common.{◌≡◌, ℕ, ◌+◌, ◌-◌, ◌<◌, ◌≤◌, List, [], ◌∷◌, ◌++◌, length, get_or, take, drop, max, Some, None, OnSome, decimal, sum_by, Option, sym, refl, ap, ◌∙◌, subst, append_assoc, arith}
+use Rattle.std.proofs.Common.{◌≡◌, ℕ, ◌+◌, ◌-◌, ◌<◌, ◌≤◌, List, [], ◌∷◌, ◌++◌, length, get_or, take, drop, Some, None, OnSome, decimal, sum_by, Option, sym, refl, ap, ◌∙◌, subst, append_assoc, arith}
 use Rattle.std.specs.List.{between}
-use Rattle.std.proofs.lemmas.List.{at_drop_more, at_drop_all, length-append, length_push, take_at, drop_at, length-take-le}
+use Rattle.std.proofs.lemmas.List.{at_drop_more, at_drop_all, length-append, length_push, nil_from_length, take_at, drop_at, length-take-le}
 use Rattle.std.proofs.lemmas.List.Sums.{sum_by-cons}
 use Rattle.lines.specs.Render.{printed, number_line, FitOneLine, ReadsBack}
 use Rattle.lines.specs.declared.writing.Writer.{Writer}
@@ -43,13 +43,13 @@ length-after n [] = length_push (decimal n) 10 ∙ sym (sum_by-cons (λ n. lengt
 length-after n (m ∷ ns) =
     omega (arith, length-append (decimal n) (32 ∷ (decimal m ++ after_first ns)), length-after m ns, sum_by-cons (λ n. length (decimal n) + 1) n (m ∷ ns))
 
+pub length-line : (ns : List ℕ) → 0 < length ns → length (number_line ns) ≡ bytes_of ns
+length-line [] some = absurd (omega arith)
+length-line (n ∷ ns) some = ap length (line_first n ns) ∙ length-after n ns
+
 -- at least the line feed
-pub line_long : (ns : List ℕ) → max (bytes_of ns) 1 ≡ length (number_line ns)
-line_long [] = refl
-line_long (n ∷ ns) =
-    let long : bytes_of (n ∷ ns) ≡ length (number_line (n ∷ ns)) = sym (ap length (line_first n ns) ∙ length-after n ns) in
-    let some : 1 ≤ bytes_of (n ∷ ns) = omega (arith, sum_by-cons (λ n. length (decimal n) + 1) n ns) in
-    omega (arith, long, some)
+pub length-no-line : (ns : List ℕ) → length ns ≡ 0 → length (number_line ns) ≡ 1
+length-no-line ns none = ap (λ l. length (number_line l)) (nil_from_length ns none)
 
 -- ---- it is read back
 

@@ -60,14 +60,13 @@ free-by-index sep [] h = tt
 free-by-index sep (b ∷ f) h = (λ e. h 0 (omega arith) e, free-by-index sep f (λ i lt e. h (suc i) (omega arith) e))
 
 -- a byte below the digits
-decimal-free : (sep n : ℕ) → sep < 48 → n < 10 ^ 13 → Free sep (decimal n)
-decimal-free sep n below small =
-    let fits : n < 2 ^ 64 = omega arith in
+pub decimal-free : (sep n : ℕ) → sep < 48 → n < 2 ^ 64 → Free sep (decimal n)
+decimal-free sep n below fits =
     free-by-index sep (decimal n) (not_in_digits digits (decimal n) sep (digits_decimal digits n fits) (λ h. omega arith))
 
 pub decimals-free : (sep : ℕ) (ns : List ℕ) → sep < 48 → AllByRecursion (λ n. n < 10 ^ 13) ns → AllByRecursion (Free sep) (map decimal ns)
 decimals-free sep [] below small = tt
-decimals-free sep (n ∷ ns) below small = (decimal-free sep n below small.0, decimals-free sep ns below small.1)
+decimals-free sep (n ∷ ns) below small = (decimal-free sep n below (omega (arith, small.0)), decimals-free sep ns below small.1)
 
 -- the numbers of fields, both ways
 pub read-printed : (p : ℕ) (ns : List ℕ) → AllByRecursion (λ n. n < 10 ^ 13) ns → numbers_of (length ns) p (map decimal ns) ≡ Ok (ns, [])

@@ -1,5 +1,5 @@
 // Text and decimal numbers written into a buffer that a caller lends.
-ghost use Rattle.std.specs.Prelude.{◌≡◌, [], ◌∷◌, length, IfNone, OnSome};
+ghost use Rattle.std.specs.Prelude.{◌≡◌, [], ◌∷◌, length, nat_le, IfNone, OnSome};
 ghost use Rattle.lines.specs.Render.{number_line, FitOneLine, ReadsBack};
 ghost use Rattle.lines.specs.Writing.{Wrote};
 
@@ -15,15 +15,23 @@ pub struct Writer<'a> {
     pub at: usize,
 }
 
-// How many bytes a line of these numbers has.
-fn line_length(numbers: &[u64]) -> u128
-    ensures { result ≡ length (number_line numbers.now) }
+// Whether a line of these numbers has at most so many bytes.
+// A loop and no sum: it ends at the first number without room, however many follow.
+fn line_fits(numbers: &[u64], room: usize) -> bool
+    ensures { result ≡ nat_le (length (number_line numbers.now)) room }
 {
-    let bytes: u128 = numbers
-        .iter()
-        .map(|n| Buffer::new().format(*n).len() as u128 + 1)
-        .sum();
-    bytes.max(1)
+    if numbers.is_empty() {
+        return room > 0;
+    }
+    let mut left = room;
+    for n in numbers {
+        let count = Buffer::new().format(*n).len() + 1;
+        if left < count {
+            return false;
+        }
+        left -= count;
+    }
+    true
 }
 
 impl Writer<'_> {
@@ -82,7 +90,7 @@ impl Writer<'_> {
         ensures reads_back { FitOneLine numbers.now → OnSome result (ReadsBack numbers.now self.new.buffer.now self.old.at self.new.at) }
     {
         let room = self.buffer.len().checked_sub(self.at)?;
-        if line_length(numbers) > room as u128 {
+        if !line_fits(numbers, room) {
             return None;
         }
         self.put_line(numbers)
