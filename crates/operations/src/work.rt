@@ -1,7 +1,7 @@
 // A table of items, worked out in place.
-ghost use Rattle.std.specs.Prelude.{◌≡◌, map};
+ghost use Rattle.std.specs.Prelude.{◌≡◌, length, map, nat_lt};
 ghost use Rattle.std.specs.Result.{result_err};
-ghost use Rattle.operations.specs.Items.{worked};
+ghost use Rattle.operations.specs.Items.{most_items, worked};
 ghost use Rattle.operations.specs.Tables.{refusal_of, worked_out, table_after, RefusedFor, AnsweredFor};
 
 use crate::items::{Item, Totals};
@@ -11,12 +11,19 @@ use grading::mean;
 // The most items that a table may have.
 pub const MOST_ITEMS: usize = 64;
 
+// Whether a table has more items than it may have.
+fn too_many(items: &[Item]) -> bool
+    ensures { result ≡ nat_lt most_items (length items.now) }
+{
+    items.len() > MOST_ITEMS
+}
+
 // Declines a table of too many items, and one with an item that is not acceptable.
 fn checked(items: &[Item]) -> Result<(), Fault>
     ensures value { result_err result ≡ refusal_of items.now }
     ensures cause { RefusedFor items.now (result_err result) }
 {
-    if items.len() > MOST_ITEMS {
+    if too_many(items) {
         return Err(Fault::plain(Refusal::OwnItem));
     }
     match items.iter().position(|item| item.kilograms_in().is_none()) {
