@@ -1,1 +1,2 @@
 pub mod Means
+mod Tables

@@ -1,5 +1,5 @@
--- The terms of an energy bill, as far as they matter.
-use Rattle.std.specs.Prelude.{ℕ, List, take}
+-- The terms of an energy bill in a table of fixed size.
+use Rattle.std.specs.Prelude.{ℕ, ◌+◌, min, List, ◌++◌, length, take, replicate, slice_set}
 use Rattle.factors.specs.declared.Activity.{Activity}
 use Rattle.entries.specs.declared.method.Bill.{Bill}
 
@@ -7,10 +7,17 @@ use Rattle.entries.specs.declared.method.Bill.{Bill}
 abbrev pub most_held : ℕ
 most_held = 17
 
--- the first terms, as many as there is room for
+abbrev pub no_term : Activity
+no_term = record { row = 0; quantity = 0 }
+
+-- the first terms, as many as the table has places for; the places after them are empty
 abbrev pub bill_of : List Activity → Bill
-bill_of terms = record { terms = record { items = take most_held terms } }
+bill_of terms = record { terms = take most_held (terms ++ replicate most_held no_term); count = min (length terms) most_held }
 
 -- the terms that a bill holds
 abbrev pub terms_in : Bill → List Activity
-terms_in bill = bill.terms.items
+terms_in bill = take (min bill.count most_held) bill.terms
+
+-- one term more, at the first empty place
+abbrev pub with_term : Bill → Activity → Bill
+with_term bill term = record { terms = slice_set bill.terms bill.count term; count = bill.count + 1 }

@@ -7,7 +7,7 @@ use Rattle.portfolio_lines.proofs.methods.read_terms.Goals as goal
 
 pub loop-preserved : goal.loop-preserved
 loop-preserved c =
-    sofar-more c.args.count c.loop.counter (fields_left c.args.fields.now) c.loop.bill c.add.new.self (fields_left c.loop.fields) (fields_left c.numbers.new.self) _ (omega arith) c.loop.invariant c.in_ok-row.ensures c.add.ensures
+    sofar-more c.args.count c.loop.counter (fields_left c.args.fields.now) c.loop.bill c.add.new.self (fields_left c.loop.fields) (fields_left c.numbers.new.self) _ (omega arith) c.loop.invariant c.in_ok-row.ensures c.add.ensures.bill
 
 pub returns-in_err-row : goal.returns-in_err-row
 returns-in_err-row c =
