@@ -8,7 +8,7 @@ ghost use Rattle.positions.specs.View.{positions_in};
 
 use crate::Positions;
 use plain::limits::{BRANCH_ROWS, branch_out_of_range};
-use rules::investees::Profile;
+use rules::kinds::Kind;
 
 // What all branches have lent to an investee: their positions, their exposures and their closing balances, added up.
 #[derive(Clone, Copy, Default)]
@@ -38,36 +38,34 @@ fn note(turns: &mut [Option<Turn>], branch: u8, turn: Turn)
 
 impl Positions {
     // The exposures to an investee, added up, without the other sums: it is asked at each post.
-    pub fn exposure(&self, investee: Profile) -> u64
-        ensures { result ≡ exposures (map (lent_by investee.kind) (positions_on investee.id (positions_in self.now))) }
+    pub fn exposure(&self, kind: Kind, id: u32) -> u64
+        ensures { result ≡ exposures (map (lent_by kind) (positions_on id (positions_in self.now))) }
     {
-        self.on(investee.id)
-            .map(|row| row.exposure(investee.kind))
-            .sum()
+        self.on(id).map(|row| row.exposure(kind)).sum()
     }
 
     // What was lent to an investee.
-    pub fn lending(&self, investee: Profile) -> Lending
-        ensures { result ≡ lending_of investee.kind investee.id (positions_in self.now) }
+    pub fn lending(&self, kind: Kind, id: u32) -> Lending
+        ensures { result ≡ lending_of kind id (positions_in self.now) }
     {
         let mut lending = Lending::default();
         // One pass for three sums.
-        for row in self.on(investee.id) {
+        for row in self.on(id) {
             lending.positions += 1;
-            lending.exposure += row.exposure(investee.kind);
+            lending.exposure += row.exposure(kind);
             lending.closing += row.closing();
         }
         lending
     }
 
     // The turn of a branch among those that have lent to an investee.
-    pub fn turn(&self, investee: Profile, branch: u64) -> Turn
-        ensures { result ≡ turn_of investee.kind investee.id branch (positions_in self.now) }
+    pub fn turn(&self, kind: Kind, id: u32, branch: u64) -> Turn
+        ensures { result ≡ turn_of kind id branch (positions_in self.now) }
     {
         let mut before = 0;
         // A `for`: it adds up until it finds the branch, and gives both.
-        for row in self.on(investee.id) {
-            let exposure = row.exposure(investee.kind);
+        for row in self.on(id) {
+            let exposure = row.exposure(kind);
             if row.is_of_branch(branch) {
                 return Turn { before, exposure };
             }
@@ -80,14 +78,14 @@ impl Positions {
     }
 
     // The turns of all branches, from branch 1 on, in one walk: None for a branch that has not lent to the investee.
-    pub fn turns(&self, investee: Profile) -> [Option<Turn>; BRANCH_ROWS]
-        ensures { result ≡ turns_of investee.kind investee.id (positions_in self.now) }
+    pub fn turns(&self, kind: Kind, id: u32) -> [Option<Turn>; BRANCH_ROWS]
+        ensures { result ≡ turns_of kind id (positions_in self.now) }
     {
         let mut turns = [None; BRANCH_ROWS];
         let mut before = 0;
         // A `for`: each turn needs the sum of the exposures before it.
-        for row in self.on(investee.id) {
-            let exposure = row.exposure(investee.kind);
+        for row in self.on(id) {
+            let exposure = row.exposure(kind);
             note(&mut turns, row.branch, Turn { before, exposure });
             before += exposure;
         }

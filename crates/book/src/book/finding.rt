@@ -48,6 +48,6 @@ impl<'r, R: Rule> Book<'r, R> {
     pub(super) fn exposure(&self, row: InvesteeRow) -> u64
         ensures { result ≡ exposure_to (plain_investee row) (plain self.now).positions }
     {
-        self.positions.exposure(row.profile)
+        self.positions.exposure(row.profile.kind, row.profile.id)
     }
 }

@@ -153,7 +153,7 @@ impl<'b, 'r, R: Rule> Held<'b, 'r, R> {
         ensures { result ≡ standing_of (R.tables self.now.book.now.rule.now) (plain self.now.book.now) (plain_investee self.now.row) }
     {
         let profile = self.row.profile;
-        let lending = self.book.positions.lending(profile);
+        let lending = self.book.positions.lending(profile.kind, profile.id);
         let attribution = attributed(self.book.rule, profile, lending.exposure, lending.closing);
         Standing {
             positions: lending.positions,
@@ -168,7 +168,7 @@ impl<'b, 'r, R: Rule> Held<'b, 'r, R> {
         ensures { result ≡ part_of (R.tables self.now.book.now.rule.now) (plain self.now.book.now) branch (plain_investee self.now.row) }
     {
         let profile = self.row.profile;
-        let turn = self.book.positions.turn(profile, branch);
+        let turn = self.book.positions.turn(profile.kind, profile.id, branch);
         self.standing().shares(turn, self.row)
     }
 

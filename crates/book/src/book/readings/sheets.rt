@@ -27,7 +27,7 @@ impl<'b, 'r, R: Rule> Held<'b, 'r, R> {
     {
         let standing = self.standing();
         let profile = self.row.profile;
-        let turns = self.book.positions.turns(profile);
+        let turns = self.book.positions.turns(profile.kind, profile.id);
         // By index: after a `zip` with `iter_mut` a proof knows nothing, and `enumerate` over the sums would go by index too.
         for (k, turn) in turns.iter().enumerate() {
             if let Some(turn) = turn {

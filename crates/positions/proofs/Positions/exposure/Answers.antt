@@ -13,12 +13,12 @@ use Rattle.positions.proofs.Positions.exposure.Goals as goal
 pub returns : goal.returns
 returns c =
     let rows = c.args.self.now.rows.items in
-    sum_by_from_yields_List (λ row. exposure_of c.args.investee.kind (plain_position row)) (rows_on c.args.investee.id rows) _ _ c.sum.ensures.ran
-    (YieldsList-from_map _ (λ row. exposure_of c.args.investee.kind (plain_position row))
-    (YieldsList-at c.map.ensures.source (YieldsList-from_first (λ y. y.now) rows_left (rows_on c.args.investee.id rows) c.on.ensures.rows))
+    sum_by_from_yields_List (λ row. exposure_of c.args.kind (plain_position row)) (rows_on c.args.id rows) _ _ c.sum.ensures.ran
+    (YieldsList-from_map _ (λ row. exposure_of c.args.kind (plain_position row))
+    (YieldsList-at c.map.ensures.source (YieldsList-from_first (λ y. y.now) rows_left (rows_on c.args.id rows) c.on.ensures.rows))
     c.map.ensures.closure (λ x r q k. search rules))
-    ∙ sym (exposures-rows c.args.investee.kind (rows_on c.args.investee.id rows))
-    ∙ ap (λ qs. exposures (map (lent_by c.args.investee.kind) qs)) (on-view c.args.investee.id rows)
+    ∙ sym (exposures-rows c.args.kind (rows_on c.args.id rows))
+    ∙ ap (λ qs. exposures (map (lent_by c.args.kind) qs)) (on-view c.args.id rows)
 
 pub sum-requires-clause-fits : goal.sum-requires-clause-fits
 sum-requires-clause-fits c =

@@ -8,13 +8,13 @@ pub loop-row-preserved : goal.loop-row-preserved
 loop-row-preserved c =
     let rows = c.args.self.now.rows.items in
     let row = c.in-Some.row.now in
-    let turn = row-next c.args.investee.id rows c.into_iter-row-iterator.ensures.into_iter_gives c.on-row-items.ensures.rows c.loop-row.yielded c.loop-row.row-iterator c.loop-row.yielded_by _ c.next.new.self c.in-Some.row c.in-Some.is c.next.ensures.steps in
+    let turn = row-next c.args.id rows c.into_iter-row-iterator.ensures.into_iter_gives c.on-row-items.ensures.rows c.loop-row.yielded c.loop-row.row-iterator c.loop-row.yielded_by _ c.next.new.self c.in-Some.row c.in-Some.is c.next.ensures.steps in
     rw (length_push c.loop-row.yielded c.in-Some.row)
-    (lent-more c.args.investee.kind (rows_on c.args.investee.id rows) (length c.loop-row.yielded) row c.loop-row.lending turn.0 turn.1 c.loop-row.invariant
+    (lent-more c.args.kind (rows_on c.args.id rows) (length c.loop-row.yielded) row c.loop-row.lending turn.0 turn.1 c.loop-row.invariant
     c.exposure.result c.closing.result c.exposure.ensures.value c.exposure.ensures.bound c.closing.ensures.value c.closing.ensures.bound)
 
 pub returns : goal.returns
 returns c =
     let rows = c.args.self.now.rows.items in
-    let end = rows-end c.args.investee.id rows c.into_iter-row-iterator.ensures.into_iter_gives c.on-row-items.ensures.rows c.loop-row.yielded c.loop-row.row-iterator c.loop-row.yielded_by _ c.next.new.self c.in-None.is c.next.ensures.steps in
-    lent-all c.args.investee.kind c.args.investee.id rows (length c.loop-row.yielded) c.loop-row.lending end c.loop-row.invariant
+    let end = rows-end c.args.id rows c.into_iter-row-iterator.ensures.into_iter_gives c.on-row-items.ensures.rows c.loop-row.yielded c.loop-row.row-iterator c.loop-row.yielded_by _ c.next.new.self c.in-None.is c.next.ensures.steps in
+    lent-all c.args.kind c.args.id rows (length c.loop-row.yielded) c.loop-row.lending end c.loop-row.invariant
