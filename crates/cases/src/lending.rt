@@ -34,18 +34,23 @@ fn reported(kilograms: u64) -> Reported {
     }
 }
 
-// A general loan with a revenue of 10,000 wan, to which branches 1, 2 and so on have lent these amounts in January.
-fn loan(kilograms: u64, balances: &[u64]) -> Result<Book<'static, National>, Failure> {
-    let mut book = Book::new(&National);
+// A general loan with a revenue of 10,000 wan, to which branches 1, 2 and so on have lent these amounts in January. The caller
+// makes the book, since a book that is returned is moved.
+fn enter_loan(
+    book: &mut Book<'_, National>,
+    kilograms: u64,
+    balances: &[u64],
+) -> Result<(), Failure> {
     book.open(fields(5, 10_000, 0), &reported(kilograms))?;
     for (branch, balance) in (1..).zip(balances) {
         book.post(branch, ID, 1, *balance)?;
     }
-    Ok(book)
+    Ok(())
 }
 
 pub fn thirds(rt: &HostRuntime) -> Result<(), Failure> {
-    let mut book = loan(1_000, &[40_000, 40_000, 40_000])?;
+    let mut book = Book::new(&National);
+    enter_loan(&mut book, 1_000, &[40_000, 40_000, 40_000])?;
     let figures = EstimateFigures {
         report_output: 1,
         base_output: 1,
@@ -68,11 +73,13 @@ pub fn thirds(rt: &HostRuntime) -> Result<(), Failure> {
 }
 
 pub fn pairs(rt: &HostRuntime) -> Result<(), Failure> {
-    let capped = loan(1_000, &[120_000, 60_000])?;
+    let mut capped = Book::new(&National);
+    enter_loan(&mut capped, 1_000, &[120_000, 60_000])?;
     let a = capped.part(ID, 1)?.emissions;
     let b = capped.part(ID, 2)?.emissions;
     println!(rt; "1000 kg over 120000 and 60000: {a} {b}")?;
-    let halves = loan(1, &[60_000, 60_000])?;
+    let mut halves = Book::new(&National);
+    enter_loan(&mut halves, 1, &[60_000, 60_000])?;
     let a = halves.part(ID, 1)?.emissions;
     let b = halves.part(ID, 2)?.emissions;
     println!(rt; "halves of 1 kg: {a} {b}")?;
@@ -82,7 +89,9 @@ pub fn pairs(rt: &HostRuntime) -> Result<(), Failure> {
 // A general loan is counted from an exposure of 6,000 wan.
 pub fn limits(rt: &HostRuntime) -> Result<(), Failure> {
     for exposure in [6_000, 5_999] {
-        let total = loan(1_000, &[exposure])?.total(ID)?;
+        let mut book = Book::new(&National);
+        enter_loan(&mut book, 1_000, &[exposure])?;
+        let total = book.total(ID)?;
         println!(rt;
             "exposure {exposure}: {} kg, reason {}",
             total.kilograms.emissions, total.reason
@@ -96,10 +105,13 @@ pub fn bonds(rt: &HostRuntime) -> Result<(), Failure> {
     for balance in [1_000, 1_001] {
         let mut book = Book::new(&Pudong);
         book.open(fields(6, 0, 1_000), &reported(1_000))?;
-        print!(rt; "bond balance {balance} on assets 1000: ")?;
+        // A whole line at once: no half of it stays where printing fails.
         match book.post(1, ID, 12, balance) {
-            Ok(()) => println!(rt; "accepted")?,
-            Err(fault) => println!(rt; "refusal {}", fault.refusal.number())?,
+            Ok(()) => println!(rt; "bond balance {balance} on assets 1000: accepted")?,
+            Err(fault) => println!(rt;
+                "bond balance {balance} on assets 1000: refusal {}",
+                fault.refusal.number()
+            )?,
         }
     }
     Ok(())
